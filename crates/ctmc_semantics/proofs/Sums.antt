@@ -1,5 +1,5 @@
 -- Laws of `sum_below`.
-use Rattle.std.proofs.Common.{ℕ, zero, suc, ◌+◌, ◌≤◌, ◌<◌, arith}
+use Rattle.std.proofs.Common.{ℕ, zero, suc, ◌≤◌, ◌<◌, arith}
 use Rattle.ctmc_semantics.specs.Sum.{sum_below}
 
 -- a sum of larger numbers is larger

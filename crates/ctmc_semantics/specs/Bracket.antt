@@ -1,5 +1,5 @@
 -- Brackets round a probability, and what they contain.
-use Rattle.std.specs.Prelude.{ℕ, ◌^◌}
+use Rattle.std.specs.Prelude.{ℕ}
 use Rattle.ctmc_semantics.specs.Fraction.{Fraction, ◌≼◌, decimal_fraction}
 
 pub record Bracket : Type 0 where
