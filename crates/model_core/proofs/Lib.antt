@@ -1,0 +1,7 @@
+pub mod Sums
+pub mod ChainSums
+pub mod Rows
+pub mod Order
+pub mod ModelLemmas
+pub mod NameTests
+pub mod RateSearch
