@@ -1,0 +1,89 @@
+-- How much of an answer's text is written.
+use Rattle.std.proofs.Common.{◌≡◌, ℕ, ◌+◌, ◌<◌, ◌≤◌, List, [], ◌++◌, length, take, drop, get_or, Option, refl, sym, ap, ◌∙◌, subst, append_assoc, append-nil, length-append, arith, add-one}
+use Rattle.std.proofs.Math.Seq.{take-append-add, take-length}
+use Rattle.std.proofs.lemmas.List.{take-append-le, at_drop_more, at_drop_all}
+use Rattle.std.proofs.KnownBytes.{Appends-trans}
+use Rattle.std.specs.Io.KnownBytes.{Appends}
+use Rattle.outside.specs.Whole.{WritesFront}
+use Rattle.session.specs.Report.{state_line, state_lines, formula_line, answer_text}
+use Rattle.session.specs.declared.report.StateAnswer.{StateAnswer}
+
+-- of the text all but the rest is written
+pub record IsWrittenBefore (text rest : List ℕ) (before now : Option (List ℕ)) : Type 0 where
+  pub done : List ℕ
+  pub splits : text ≡ done ++ rest
+  pub written : Appends before now done
+
+module _ (text : List ℕ) (a b : Option (List ℕ)) where
+  -- the next piece is written too
+  pub piece_written : (c : Option (List ℕ)) (piece rest : List ℕ) → IsWrittenBefore text (piece ++ rest) a b → Appends b c piece → IsWrittenBefore text rest a c
+  piece_written c piece rest w p = record {
+    done = w.done ++ piece;
+    splits = w.splits ∙ sym (append_assoc w.done piece rest);
+    written = Appends-trans a b c w.done piece w.written p;
+  }
+
+  -- a front of the next piece is written
+  pub front_of_piece : (c : Option (List ℕ)) (piece rest : List ℕ) → IsWrittenBefore text (piece ++ rest) a b → WritesFront piece b c → WritesFront text a c
+  front_of_piece c piece rest w p = record {
+    count = length w.done + p.count;
+    within = omega (arith, ap length w.splits, length-append w.done (piece ++ rest), length-append piece rest, p.within);
+    written =
+        subst (Appends a c)
+        (sym (ap (take (length w.done + p.count)) w.splits ∙ take-append-add w.done (piece ++ rest) p.count ∙ ap (λ l. w.done ++ l) (take-append-le p.count piece rest p.within)))
+        (Appends-trans a b c w.done (take p.count piece) w.written p.written);
+  }
+
+  -- what is written so far is a front
+  pub front_so_far : (rest : List ℕ) → IsWrittenBefore text rest a b → WritesFront text a b
+  front_so_far rest w = record {
+    count = length w.done;
+    within = omega (arith, ap length w.splits, length-append w.done rest);
+    written =
+        subst (Appends a b)
+        (sym (ap (take (length w.done)) w.splits ∙ take-append-le (length w.done) w.done rest (omega arith) ∙ take-length w.done))
+        w.written;
+  }
+
+  -- with nothing left all is written
+  pub all_written : IsWrittenBefore text [] a b → Appends a b text
+  all_written w = subst (Appends a b) (sym (w.splits ∙ append-nil w.done)) w.written
+
+-- the lines of the states from the i-th on are its line and the lines of the others
+pub state_lines_more : (states : List StateAnswer) (i : ℕ) (d : StateAnswer) → i < length states
+    → state_lines (i + 1) (drop i states) ≡ state_line (i + 1) (get_or states i d) ++ state_lines ((i + 1) + 1) (drop (i + 1) states)
+state_lines_more states i d l =
+    at_drop_more (state_lines (i + 1)) states i d l
+    ∙ ap (λ n. state_line (i + 1) (get_or states i d) ++ state_lines n (drop (i + 1) states)) (sym (add-one (i + 1)))
+
+pub state_lines_all : (states : List StateAnswer) (i : ℕ) → length states ≤ i → state_lines (i + 1) (drop i states) ≡ []
+state_lines_all states i l = at_drop_all (state_lines (i + 1)) states i l
+
+-- a line that was put into an empty buffer
+line_is : (line items start piece : List ℕ) → line ≡ items → items ≡ start ++ piece → start ≡ [] → line ≡ piece
+line_is line items start piece e f n = e ∙ f ∙ ap (λ l. l ++ piece) n
+
+module _ (formula : List ℕ) (states : List StateAnswer) (a b c : Option (List ℕ)) (line items start : List ℕ) (is : line ≡ items) (empty : start ≡ []) where
+  -- a front of the formula's line is written
+  pub front_of_formula : Appends a b [] → items ≡ start ++ formula_line formula → WritesFront line b c → WritesFront (answer_text formula states) a c
+  front_of_formula none put p =
+      front_of_piece (answer_text formula states) a b c (formula_line formula) (state_lines 1 states)
+      (record { done = []; splits = refl; written = none })
+      (subst (λ l. WritesFront l b c) (line_is line items start (formula_line formula) is put empty) p)
+
+  module _ (s : ℕ) (d : StateAnswer) (below : s < length states) (put : items ≡ start ++ state_line (s + 1) (get_or states s d))
+      (lines : IsWrittenBefore (answer_text formula states) (state_lines (s + 1) (drop s states)) a b) where
+    next : IsWrittenBefore (answer_text formula states) (state_line (s + 1) (get_or states s d) ++ state_lines ((s + 1) + 1) (drop (s + 1) states)) a b
+    next = subst (λ r. IsWrittenBefore (answer_text formula states) r a b) (state_lines_more states s d below) lines
+
+    -- a front of the next state's line is written
+    pub front_of_state : WritesFront line b c → WritesFront (answer_text formula states) a c
+    front_of_state p =
+        front_of_piece (answer_text formula states) a b c (state_line (s + 1) (get_or states s d)) (state_lines ((s + 1) + 1) (drop (s + 1) states)) next
+        (subst (λ l. WritesFront l b c) (line_is line items start (state_line (s + 1) (get_or states s d)) is put empty) p)
+
+    -- the next state's line is written
+    pub state_written : Appends b c line → IsWrittenBefore (answer_text formula states) (state_lines ((s + 1) + 1) (drop (s + 1) states)) a c
+    state_written p =
+        piece_written (answer_text formula states) a b c (state_line (s + 1) (get_or states s d)) (state_lines ((s + 1) + 1) (drop (s + 1) states)) next
+        (subst (λ l. Appends b c l) (line_is line items start (state_line (s + 1) (get_or states s d)) is put empty) p)

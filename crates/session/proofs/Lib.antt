@@ -1,0 +1,15 @@
+pub mod Fronts
+pub mod PlainFormulas
+pub mod PlainHeads
+pub mod PlainLabels
+pub mod PlainLabs
+pub mod PlainLines
+pub mod PlainNames
+pub mod PlainNumbers
+pub mod PlainPairs
+pub mod PlainRates
+pub mod PlainThresholds
+pub mod Outcomes
+pub mod Readings
+pub mod Rounding
+pub mod Served

@@ -1,0 +1,160 @@
+-- What is answered to words, files and formulas: it is one outcome at most, and an answer is exact.
+use Rattle.std.proofs.Common.{◌≡◌, ℕ, ◌<◌, ◌≤◌, ◌⊎◌, List, ◌++◌, length, Option, Some, None, IsNone, IsSomeAnd, inl, inr, refl, sym, ap, ◌∙◌, subst, arith, append-nil, length-append}
+use Rattle.std.specs.Io.KnownBytes.{Consumes, IsAtEnd}
+use Rattle.std.proofs.lemmas.Bool.{false≢true}
+use Rattle.outside.specs.Shelf.{Pair, IsFile, IsTooBig, file_limit}
+use Rattle.ctmc_semantics.specs.Fraction.{decimal_fraction}
+use Rattle.decimal_text.specs.DecimalNumber.{DecimalNumber}
+use Rattle.model_core.specs.Files.{TraLists, LabLists}
+use Rattle.model_core.specs.Model.{has_label}
+use Rattle.session.specs.Command.{FileNames}
+use Rattle.session.specs.NextAnswer.{next_answers}
+use Rattle.session.specs.Outcome.{Outcome, Usage, NotBuilt, Answered, TakesTra, TakesLab, TakesModel, TakesOtherTra, TakesOtherLab, TakesFormula, TakesOtherFormula, TakesTooMuch, IsFileNotBuilt, IsNotBuilt, IsAnswered, IsOutcomeOf, first_name, tra_chain}
+use Rattle.session.specs.PlainFormula.{formula_text, IsPlainFormula}
+use Rattle.session.specs.PlainLab.{IsPlainLab}
+use Rattle.session.specs.PlainTra.{IsPlainTra}
+use Rattle.session.specs.declared.report.StateAnswer.{StateAnswer}
+use Rattle.session.specs.declared.status.Part.{Part}
+use Rattle.session.specs.declared.status.Part.TheVariants.{TraFile, LabFile, Formula}
+use Rattle.session.proofs.PlainFormulas.{plain_formula_unique}
+use Rattle.session.proofs.PlainHeads.{plain_tra_unique}
+use Rattle.session.proofs.PlainLabs.{plain_lab_unique}
+
+some_same : (a b : List ℕ) → Some a ≡ Some b → a ≡ b
+some_same a b e = cc
+
+is_some : (names : FileNames) → IsNone (Some names) → ⊥
+is_some names e = false≢true (sym e)
+
+-- ---- one file has one reading
+module _ (pairs : List Pair) where
+  one_file : (name a b : List ℕ) → IsFile name (Some pairs) a → IsFile name (Some pairs) b → a ≡ b
+  one_file name a b p q = some_same a b (sym p ∙ q)
+
+  not_too_big : (name a : List ℕ) → IsFile name (Some pairs) a → length a ≤ file_limit → IsTooBig name (Some pairs) → ⊥
+  not_too_big name a p w big =
+      let long : file_limit < length a = subst (λ o. IsSomeAnd o (λ bytes. file_limit < length bytes)) p big in
+      omega (arith, w, long)
+
+  one_tra : (name : List ℕ) (a b : TraLists) → TakesTra name (Some pairs) a → TakesTra name (Some pairs) b → a ≡ b
+  one_tra name a b p q =
+      plain_tra_unique p.bytes a b p.plain (subst (λ t. IsPlainTra t b) (one_file name q.bytes p.bytes q.is_file p.is_file) q.plain)
+
+  no_tra : (name : List ℕ) (a : TraLists) → TakesTra name (Some pairs) a → IsTooBig name (Some pairs) ⊎ TakesOtherTra name (Some pairs) → ⊥
+  no_tra name a p (inl big) = not_too_big name p.bytes p.is_file p.within big
+  no_tra name a p (inr q) = q.other a (subst (λ t. IsPlainTra t a) (one_file name p.bytes q.bytes p.is_file q.is_file) p.plain)
+
+  few_states : (name : List ℕ) (a : TraLists) → TakesTra name (Some pairs) a → a.n < 4294967296
+  few_states name a p = omega (arith, p.plain.head.few_states)
+
+  one_lab : (name : List ℕ) (n : ℕ) (a b : LabLists) → n < 4294967296 → TakesLab n name (Some pairs) a → TakesLab n name (Some pairs) b → a ≡ b
+  one_lab name n a b small p q =
+      plain_lab_unique n p.bytes a b small p.plain (subst (λ t. IsPlainLab n t b) (one_file name q.bytes p.bytes q.is_file p.is_file) q.plain)
+
+  no_lab : (name : List ℕ) (n : ℕ) (a : LabLists) → TakesLab n name (Some pairs) a → IsTooBig name (Some pairs) ⊎ TakesOtherLab n name (Some pairs) → ⊥
+  no_lab name n a p (inl big) = not_too_big name p.bytes p.is_file p.within big
+  no_lab name n a p (inr q) = q.other a (subst (λ t. IsPlainLab n t a) (one_file name p.bytes q.bytes p.is_file q.is_file) p.plain)
+
+  -- both readings of the two files are the same
+  pub record SameModel (names : FileNames) (a b : TakesModel names (Some pairs)) : Type 0 where
+    pub tra : a.tra ≡ b.tra
+    pub lab : a.lab ≡ b.lab
+
+  one_model : (names : FileNames) (a b : TakesModel names (Some pairs)) → SameModel names a b
+  one_model names a b =
+      let tra : a.tra ≡ b.tra = one_tra names.tra a.tra b.tra a.takes_tra b.takes_tra in
+      record {
+        tra = tra;
+        lab =
+            one_lab names.lab a.tra.n a.lab b.lab (few_states names.tra a.tra a.takes_tra) a.takes_lab
+            (subst (λ t. TakesLab t.n names.lab (Some pairs) b.lab) (sym tra) b.takes_lab);
+      }
+
+  no_model : (names : FileNames) (a : TakesModel names (Some pairs)) (part : Part) → IsFileNotBuilt names (Some pairs) part → ⊥
+  no_model names a TraFile h = no_tra names.tra a.tra a.takes_tra h
+  no_model names a LabFile (tra, takes, other) =
+      let same : tra ≡ a.tra = one_tra names.tra tra a.tra takes a.takes_tra in
+      no_lab names.lab a.tra.n a.lab a.takes_lab (subst (λ t. IsTooBig names.lab (Some pairs) ⊎ TakesOtherLab t.n names.lab (Some pairs)) same other)
+  no_model names a Formula h = h
+
+  not_both_files : (names : FileNames) → IsFileNotBuilt names (Some pairs) TraFile → IsFileNotBuilt names (Some pairs) LabFile → ⊥
+  not_both_files names h (tra, takes, other) = no_tra names.tra tra takes h
+
+-- ---- one input has one reading
+module _ (left : List ℕ) where
+  all_taken : (now : Option (List ℕ)) (bytes : List ℕ) → Consumes (Some left) now bytes → IsAtEnd now → left ≡ bytes
+  all_taken None bytes p e = absurd p
+  all_taken (Some rest) bytes p e = p ∙ ap (λ r. bytes ++ r) e ∙ append-nil bytes
+
+  some_taken : (now : Option (List ℕ)) (bytes : List ℕ) → Consumes (Some left) now bytes → length bytes ≤ length left
+  some_taken None bytes p = absurd p
+  some_taken (Some rest) bytes p = omega (arith, ap length p, length-append bytes rest)
+
+  one_formula : (name : List ℕ) (u v : Option (List ℕ)) (c d : DecimalNumber) → TakesFormula name (Some left) u c → TakesFormula name (Some left) v d → c ≡ d
+  one_formula name u v c d p q =
+      let same : q.bytes ≡ p.bytes = sym (all_taken v q.bytes q.taken q.end) ∙ all_taken u p.bytes p.taken p.end in
+      plain_formula_unique name p.bytes c d p.plain (subst (λ t. IsPlainFormula name t d) same q.plain)
+
+  no_formula : (name : List ℕ) (u v : Option (List ℕ)) (c : DecimalNumber) → TakesFormula name (Some left) u c → TakesTooMuch (Some left) v ⊎ TakesOtherFormula name (Some left) v → ⊥
+  no_formula name u v c p (inl q) = omega (arith, p.within, q.long, some_taken v q.bytes q.taken, ap length (all_taken u p.bytes p.taken p.end))
+  no_formula name u v c p (inr q) =
+      let same : p.bytes ≡ q.bytes = sym (all_taken u p.bytes p.taken p.end) ∙ all_taken v q.bytes q.taken q.end in
+      q.other c (subst (λ t. IsPlainFormula name t c) same p.plain)
+
+-- ---- one outcome
+module _ (pairs : List Pair) (left : List ℕ) (u v : Option (List ℕ)) (names : FileNames) where
+  one_answer : (f g : List ℕ) (xs ys : List StateAnswer) → IsAnswered names (Some pairs) (Some left) u f xs → IsAnswered names (Some pairs) (Some left) v g ys → (f ≡ g) × (xs ≡ ys)
+  one_answer f g xs ys p q =
+      let model = one_model pairs names p.model q.model in
+      let name : first_name q.model.lab.names ≡ first_name p.model.lab.names = ap (λ l. first_name l.names) (sym model.lab) in
+      let same : p.threshold ≡ q.threshold =
+      one_formula left (first_name p.model.lab.names) u v p.threshold q.threshold p.takes_formula (subst (λ n. TakesFormula n (Some left) v q.threshold) name q.takes_formula) in (
+        (p.is_formula ∙ ap (λ n. formula_text n p.threshold) (sym name) ∙ ap (formula_text (first_name q.model.lab.names)) same ∙ sym q.is_formula),
+        (p.are_states
+            ∙ ap (λ t. next_answers (tra_chain t) (has_label p.model.lab.marks 0) (decimal_fraction p.threshold.c p.threshold.x)) model.tra
+            ∙ ap (λ l. next_answers (tra_chain q.model.tra) (has_label l.marks 0) (decimal_fraction p.threshold.c p.threshold.x)) model.lab
+            ∙ ap (λ d. next_answers (tra_chain q.model.tra) (has_label q.model.lab.marks 0) (decimal_fraction d.c d.x)) same
+            ∙ sym q.are_states),
+      )
+
+  answer_not_part : (f : List ℕ) (xs : List StateAnswer) (part : Part) → IsAnswered names (Some pairs) (Some left) u f xs → IsNotBuilt names (Some pairs) (Some left) v part → ⊥
+  answer_not_part f xs TraFile p q = no_model pairs names p.model TraFile q.0
+  answer_not_part f xs LabFile p q = no_model pairs names p.model LabFile q.0
+  answer_not_part f xs Formula p q =
+      let model = one_model pairs names q.model p.model in
+      no_formula left (first_name p.model.lab.names) u v p.threshold p.takes_formula
+      (subst (λ l. TakesTooMuch (Some left) v ⊎ TakesOtherFormula (first_name l.names) (Some left) v) model.lab q.other)
+
+  one_part : (a b : Part) → IsNotBuilt names (Some pairs) (Some left) u a → IsNotBuilt names (Some pairs) (Some left) v b → a ≡ b
+  one_part TraFile TraFile p q = refl
+  one_part TraFile LabFile p q = absurd (not_both_files pairs names p.0 q.0)
+  one_part TraFile Formula p q = absurd (no_model pairs names q.model TraFile p.0)
+  one_part LabFile TraFile p q = absurd (not_both_files pairs names q.0 p.0)
+  one_part LabFile LabFile p q = refl
+  one_part LabFile Formula p q = absurd (no_model pairs names q.model LabFile p.0)
+  one_part Formula TraFile p q = absurd (no_model pairs names p.model TraFile q.0)
+  one_part Formula LabFile p q = absurd (no_model pairs names p.model LabFile q.0)
+  one_part Formula Formula p q = refl
+
+-- words, files and formulas have one outcome at most
+pub one_outcome : (pairs : List Pair) (left : List ℕ) (u v : Option (List ℕ)) (command : Option FileNames) (a b : Outcome)
+    → IsOutcomeOf command (Some pairs) (Some left) u a → IsOutcomeOf command (Some pairs) (Some left) v b → a ≡ b
+one_outcome pairs left u v command Usage Usage p q = refl
+one_outcome pairs left u v None Usage (NotBuilt part) p q = absurd q
+one_outcome pairs left u v (Some names) Usage (NotBuilt part) p q = absurd (is_some names p.0)
+one_outcome pairs left u v None Usage (Answered f xs) p q = absurd q
+one_outcome pairs left u v (Some names) Usage (Answered f xs) p q = absurd (is_some names p.0)
+one_outcome pairs left u v None (NotBuilt part) Usage p q = absurd p
+one_outcome pairs left u v (Some names) (NotBuilt part) Usage p q = absurd (is_some names q.0)
+one_outcome pairs left u v None (NotBuilt a) (NotBuilt b) p q = absurd p
+one_outcome pairs left u v (Some names) (NotBuilt a) (NotBuilt b) p q = ap NotBuilt (one_part pairs left u v names a b p q)
+one_outcome pairs left u v None (NotBuilt a) (Answered f xs) p q = absurd p
+one_outcome pairs left u v (Some names) (NotBuilt a) (Answered f xs) p q = absurd (answer_not_part pairs left v u names f xs a q p)
+one_outcome pairs left u v None (Answered f xs) Usage p q = absurd p
+one_outcome pairs left u v (Some names) (Answered f xs) Usage p q = absurd (is_some names q.0)
+one_outcome pairs left u v None (Answered f xs) (NotBuilt b) p q = absurd p
+one_outcome pairs left u v (Some names) (Answered f xs) (NotBuilt b) p q = absurd (answer_not_part pairs left u v names f xs b p q)
+one_outcome pairs left u v None (Answered f xs) (Answered g ys) p q = absurd p
+one_outcome pairs left u v (Some names) (Answered f xs) (Answered g ys) p q =
+    let both = one_answer pairs left u v names f g xs ys p q in
+    ap (λ h. Answered h xs) both.0 ∙ ap (Answered g) both.1

@@ -1,0 +1,11 @@
+pub mod Command
+pub mod ExitCode
+pub mod NextAnswer
+pub mod Outcome
+pub mod PlainFormula
+pub mod PlainLab
+pub mod PlainText
+pub mod PlainTra
+pub mod Reading
+pub mod Report
+pub mod Serve

@@ -1,0 +1,149 @@
+-- What is answered to the words, the files and the formulas.
+use Rattle.std.specs.Prelude.{◌≡◌, ℕ, ◌+◌, ◌≤◌, ◌⊎◌, List, [], ◌∷◌, ◌++◌, length, codes, Option, IsNone, IsSomeAnd, slice_index_or}
+use Rattle.std.specs.Io.KnownBytes.{Consumes, Keeps, IsAtEnd}
+use Rattle.outside.specs.Shelf.{Pair, IsFile, IsTooBig, file_limit}
+use Rattle.ctmc_semantics.specs.Chain.{Chain}
+use Rattle.ctmc_semantics.specs.Fraction.{decimal_fraction}
+use Rattle.decimal_text.specs.DecimalNumber.{DecimalNumber}
+use Rattle.model_core.specs.Files.{TraLists, LabLists}
+use Rattle.model_core.specs.Model.{has_label}
+use Rattle.model_core.specs.Transitions.{chain_of}
+use Rattle.session.specs.Command.{FileNames, command_of}
+use Rattle.session.specs.NextAnswer.{next_answers}
+use Rattle.session.specs.PlainFormula.{IsPlainFormula, formula_text}
+use Rattle.session.specs.PlainLab.{IsPlainLab}
+use Rattle.session.specs.PlainTra.{IsPlainTra}
+use Rattle.session.specs.Report.{answer_text}
+use Rattle.session.specs.declared.status.Part.{Part}
+use Rattle.session.specs.declared.status.Part.TheVariants.{TraFile, LabFile, Formula}
+use Rattle.session.specs.declared.status.Status.{Status}
+use Rattle.session.specs.declared.report.StateAnswer.{StateAnswer}
+
+-- 1 MiB
+abbrev pub formulas_limit : ℕ
+formulas_limit = 1048576
+
+-- what is said: the usage, that a part isn't built, or the answer to a formula
+pub data Outcome : Type 0 where
+  Usage : Outcome
+  NotBuilt : Part → Outcome
+  Answered : List ℕ → List StateAnswer → Outcome
+
+-- the file was taken whole, and stands for this chain
+pub record TakesTra (name : List ℕ) (files : Option (List Pair)) (tra : TraLists) : Type 0 where
+  pub bytes : List ℕ
+  pub is_file : IsFile name files bytes
+  pub within : length bytes ≤ file_limit
+  pub plain : IsPlainTra bytes tra
+
+-- the file was taken whole, and stands for these labels of n states
+pub record TakesLab (n : ℕ) (name : List ℕ) (files : Option (List Pair)) (lab : LabLists) : Type 0 where
+  pub bytes : List ℕ
+  pub is_file : IsFile name files bytes
+  pub within : length bytes ≤ file_limit
+  pub plain : IsPlainLab n bytes lab
+
+-- both files stand for a model
+pub record TakesModel (names : FileNames) (files : Option (List Pair)) : Type 0 where
+  pub tra : TraLists
+  pub lab : LabLists
+  pub takes_tra : TakesTra names.tra files tra
+  pub takes_lab : TakesLab tra.n names.lab files lab
+
+-- the file was taken whole, and stands for no chain
+pub record TakesOtherTra (name : List ℕ) (files : Option (List Pair)) : Type 0 where
+  pub bytes : List ℕ
+  pub is_file : IsFile name files bytes
+  pub within : length bytes ≤ file_limit
+  pub other : (tra : TraLists) → ¬ IsPlainTra bytes tra
+
+-- the file was taken whole, and stands for no labels of n states
+pub record TakesOtherLab (n : ℕ) (name : List ℕ) (files : Option (List Pair)) : Type 0 where
+  pub bytes : List ℕ
+  pub is_file : IsFile name files bytes
+  pub within : length bytes ≤ file_limit
+  pub other : (lab : LabLists) → ¬ IsPlainLab n bytes lab
+
+-- the first name that is declared
+abbrev pub first_name : List (List ℕ) → List ℕ
+first_name names = slice_index_or names 0 []
+
+-- the formulas were read to their end, and are this one over the declared name
+pub record TakesFormula (name : List ℕ) (before now : Option (List ℕ)) (threshold : DecimalNumber) : Type 0 where
+  pub bytes : List ℕ
+  pub taken : Consumes before now bytes
+  pub within : length bytes ≤ formulas_limit
+  pub end : IsAtEnd now
+  pub plain : IsPlainFormula name bytes threshold
+
+-- the formulas were read to their end, and are no such formula
+pub record TakesOtherFormula (name : List ℕ) (before now : Option (List ℕ)) : Type 0 where
+  pub bytes : List ℕ
+  pub taken : Consumes before now bytes
+  pub within : length bytes ≤ formulas_limit
+  pub end : IsAtEnd now
+  pub other : (threshold : DecimalNumber) → ¬ IsPlainFormula name bytes threshold
+
+-- one byte more than the limit was read of the formulas
+pub record TakesTooMuch (before now : Option (List ℕ)) : Type 0 where
+  pub bytes : List ℕ
+  pub taken : Consumes before now bytes
+  pub long : length bytes ≡ formulas_limit + 1
+
+-- the chain that the lists stand for
+abbrev pub tra_chain : TraLists → Chain
+tra_chain tra = chain_of tra.n tra.rates
+
+-- all was read, and these are the formula's text and the answers at the states
+pub record IsAnswered (names : FileNames) (files : Option (List Pair)) (before now : Option (List ℕ)) (formula : List ℕ) (states : List StateAnswer) : Type 0 where
+  pub model : TakesModel names files
+  pub threshold : DecimalNumber
+  pub takes_formula : TakesFormula (first_name model.lab.names) before now threshold
+  pub is_formula : formula ≡ formula_text (first_name model.lab.names) threshold
+  pub are_states : states ≡ next_answers (tra_chain model.tra) (has_label model.lab.marks 0) (decimal_fraction threshold.c threshold.x)
+
+-- the first of the two files that isn't of the plain form, or has too many bytes
+abbrev pub IsFileNotBuilt : FileNames → Option (List Pair) → Part → Type 0
+IsFileNotBuilt names files TraFile = IsTooBig names.tra files ⊎ TakesOtherTra names.tra files
+IsFileNotBuilt names files LabFile =
+    (tra : TraLists) × TakesTra names.tra files tra × (IsTooBig names.lab files ⊎ TakesOtherLab tra.n names.lab files)
+IsFileNotBuilt names files Formula = ⊥
+
+-- both files are of the plain form, and the formulas aren't, or have too many bytes
+pub record IsFormulaNotBuilt (names : FileNames) (files : Option (List Pair)) (before now : Option (List ℕ)) : Type 0 where
+  pub model : TakesModel names files
+  pub other : TakesTooMuch before now ⊎ TakesOtherFormula (first_name model.lab.names) before now
+
+-- the first part, in the order of the files and the formulas, that isn't built; of the formulas nothing is read before
+abbrev pub IsNotBuilt : FileNames → Option (List Pair) → Option (List ℕ) → Option (List ℕ) → Part → Type 0
+IsNotBuilt names files before now TraFile = IsFileNotBuilt names files TraFile × Keeps before now
+IsNotBuilt names files before now LabFile = IsFileNotBuilt names files LabFile × Keeps before now
+IsNotBuilt names files before now Formula = IsFormulaNotBuilt names files before now
+
+-- what is answered to a command, or where there is none
+abbrev pub IsOutcomeOf : Option FileNames → Option (List Pair) → Option (List ℕ) → Option (List ℕ) → Outcome → Type 0
+IsOutcomeOf command files before now Usage = IsNone command × Keeps before now
+IsOutcomeOf command files before now (NotBuilt part) = IsSomeAnd command (λ names. IsNotBuilt names files before now part)
+IsOutcomeOf command files before now (Answered formula states) = IsSomeAnd command (λ names. IsAnswered names files before now formula states)
+
+-- what is answered to the words, the files and the formulas
+abbrev pub IsOutcome : List (List ℕ) → Option (List Pair) → Option (List ℕ) → Option (List ℕ) → Outcome → Type 0
+IsOutcome words files before now outcome = IsOutcomeOf (command_of words) files before now outcome
+
+abbrev pub usage_text : List ℕ
+usage_text = codes "usage: mrmc_any (ctmc M.tra M.lab | cmrm M.tra M.lab M.rew) [--workers 1..64] [--bits 8..48] [--jumps 1..16384] [--watch 0..1000] [--state 1..65536]" ++ 10 ∷ []
+
+abbrev pub not_built_text : Part → List ℕ
+not_built_text TraFile = codes "not built tra" ++ 10 ∷ []
+not_built_text LabFile = codes "not built lab" ++ 10 ∷ []
+not_built_text Formula = codes "not built formula" ++ 10 ∷ []
+
+abbrev pub outcome_text : Outcome → List ℕ
+outcome_text Usage = usage_text
+outcome_text (NotBuilt part) = not_built_text part
+outcome_text (Answered formula states) = answer_text formula states
+
+abbrev pub outcome_status : Outcome → Status
+outcome_status Usage = Status.Usage
+outcome_status (NotBuilt part) = Status.NotBuilt part
+outcome_status (Answered formula states) = Status.Done

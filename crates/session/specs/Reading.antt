@@ -1,0 +1,109 @@
+-- What is known after the words, the files and the formulas are read.
+use Rattle.std.specs.Prelude.{◌≡◌, ℕ, ◌^◌, ◌<◌, ◌≤◌, ◌⊎◌, List, [], ◌∷◌, ◌++◌, length, take, Option, Some, None, All, Vec, Result, Ok, Err}
+use Rattle.std.specs.declared.alloc.Global.{Global}
+use Rattle.outside.specs.Shelf.{Pair, IsFile, IsTooBig, file_limit}
+use Rattle.ctmc_semantics.specs.Fraction.{decimal_fraction}
+use Rattle.decimal_text.specs.DecimalNumber.{DecimalNumber}
+use Rattle.model_core.specs.Files.{TraLists, LabLists}
+use Rattle.model_core.specs.Model.{ModelLists, IsBuiltOf, has_label, model_chain}
+use Rattle.session.specs.Command.{FileNames, names_of}
+use Rattle.session.specs.Outcome.{Outcome, Usage, NotBuilt, Answered, TakesTra, TakesLab, TakesModel, TakesOtherTra, TakesOtherLab, TakesFormula, TakesOtherFormula, TakesTooMuch, IsFileNotBuilt, first_name}
+use Rattle.session.specs.PlainFormula.{formula_text}
+use Rattle.session.specs.NextAnswer.{next_answers}
+use Rattle.session.specs.Report.{IsPrintable}
+use Rattle.session.specs.Serve.{AsksFor}
+use Rattle.session.specs.declared.reading.Reply.{Reply}
+use Rattle.session.specs.declared.reading.Reply.TheVariants.{Usage as UsageReply, NotBuilt as NotBuiltReply, Answer as AnswerReply}
+use Rattle.session.specs.declared.reading.ModelReading.{ModelReading}
+use Rattle.session.specs.declared.reading.ModelReading.TheVariants.{Built, NotBuilt as FileNotBuilt}
+use Rattle.session.specs.declared.reading.Stop.{Stop}
+use Rattle.session.specs.declared.report.StateAnswer.{StateAnswer}
+use Rattle.session.specs.declared.status.Part.{Part}
+use Rattle.session.specs.declared.status.Part.TheVariants.{TraFile, LabFile, Formula}
+
+-- what a reply says
+abbrev pub outcome_of : Reply → Outcome
+outcome_of UsageReply = Usage
+outcome_of (NotBuiltReply part) = NotBuilt part
+outcome_of (AnswerReply answer) = Answered answer.formula.items answer.states.items
+
+-- the reply's lines can be written
+abbrev pub IsWritable : Reply → Type 0
+IsWritable UsageReply = Unit {0}
+IsWritable (NotBuiltReply part) = Unit {0}
+IsWritable (AnswerReply answer) = All IsPrintable answer.states.items × (length answer.states.items < 2 ^ 32)
+
+-- a file's bytes, or none where there are too many
+abbrev pub IsFileReading : List ℕ → Option (List Pair) → Option (Vec ℕ Global) → Type 0
+IsFileReading name files None = IsTooBig name files
+IsFileReading name files (Some bytes) = IsFile name files bytes.items × (length bytes.items ≤ file_limit)
+
+-- the chain of a plain file, or none
+abbrev pub IsTraReading : List ℕ → Option (List Pair) → Option TraLists → Type 0
+IsTraReading name files None = IsTooBig name files ⊎ TakesOtherTra name files
+IsTraReading name files (Some tra) = TakesTra name files tra
+
+-- the labels of a plain file, or none
+abbrev pub IsLabReading : ℕ → List ℕ → Option (List Pair) → Option LabLists → Type 0
+IsLabReading n name files None = IsTooBig name files ⊎ TakesOtherLab n name files
+IsLabReading n name files (Some lab) = TakesLab n name files lab
+
+-- the two files stand for what the model was built of
+pub record IsModelOf (names : FileNames) (files : Option (List Pair)) (model : ModelLists) : Type 0 where
+  pub takes : TakesModel names files
+  pub built : IsBuiltOf model takes.tra takes.lab None
+
+-- the model of two plain files, or the first that isn't plain
+abbrev pub IsModelReading : FileNames → Option (List Pair) → ModelReading → Type 0
+IsModelReading names files (Built model) = IsModelOf names files model
+IsModelReading names files (FileNotBuilt part) = IsFileNotBuilt names files part
+
+-- the formula was read, and these are its text and the answers at the states
+pub record IsFormulaAnswer (model : ModelLists) (before now : Option (List ℕ)) (formula : List ℕ) (states : List StateAnswer) : Type 0 where
+  pub threshold : DecimalNumber
+  pub takes : TakesFormula (first_name model.names) before now threshold
+  pub is_formula : formula ≡ formula_text (first_name model.names) threshold
+  pub are_states : states ≡ next_answers (model_chain model) (has_label model.marks 0) (decimal_fraction threshold.c threshold.x)
+
+-- the text and the threshold of a plain formula, or none
+abbrev pub IsFormulaReading : List ℕ → Option (List ℕ) → Option (List ℕ) → Option (Vec ℕ Global × DecimalNumber) → Type 0
+IsFormulaReading name before now None = TakesTooMuch before now ⊎ TakesOtherFormula name before now
+IsFormulaReading name before now (Some formula) =
+    TakesFormula name before now formula.1 × (formula.0.items ≡ formula_text name formula.1)
+
+-- what the formulas give over a model: an answer, or that the formula isn't built
+abbrev pub IsFormulaOutcome : ModelLists → Option (List ℕ) → Option (List ℕ) → Outcome → Type 0
+IsFormulaOutcome model before now Usage = ⊥
+IsFormulaOutcome model before now (NotBuilt TraFile) = ⊥
+IsFormulaOutcome model before now (NotBuilt LabFile) = ⊥
+IsFormulaOutcome model before now (NotBuilt Formula) = TakesTooMuch before now ⊎ TakesOtherFormula (first_name model.names) before now
+IsFormulaOutcome model before now (Answered formula states) = IsFormulaAnswer model before now formula states
+
+-- the name is asked for, or memory ran out
+abbrev pub AsksForFile : {A : Type 0} → List ℕ → Result A Stop → List (List ℕ) → List (List ℕ) → Type 0
+AsksForFile name (Ok value) old new = new ≡ old ++ name ∷ []
+AsksForFile name (Err stop) old new = AsksFor (name ∷ []) old new
+
+-- the names that were asked for where a file that isn't plain is this part
+abbrev pub names_up_to : Part → FileNames → List (List ℕ)
+names_up_to TraFile names = names.tra ∷ []
+names_up_to LabFile names = names.tra ∷ names.lab ∷ []
+names_up_to Formula names = names.tra ∷ names.lab ∷ []
+
+-- the names that were asked for on the way to a model, or a front of them
+abbrev pub AsksForModel : FileNames → Result ModelReading Stop → List (List ℕ) → List (List ℕ) → Type 0
+AsksForModel names (Ok (Built model)) old new = new ≡ old ++ names.tra ∷ names.lab ∷ []
+AsksForModel names (Ok (FileNotBuilt part)) old new = new ≡ old ++ names_up_to part names
+AsksForModel names (Err stop) old new = AsksFor (names.tra ∷ names.lab ∷ []) old new
+
+-- the names that were asked for on the way to a reply, or a front of them
+abbrev pub names_before : Outcome → Option FileNames → List (List ℕ)
+names_before Usage command = []
+names_before (NotBuilt TraFile) command = take 1 (names_of command)
+names_before (NotBuilt LabFile) command = names_of command
+names_before (NotBuilt Formula) command = names_of command
+names_before (Answered formula states) command = names_of command
+
+abbrev pub AsksForReply : Option FileNames → Result Reply Stop → List (List ℕ) → List (List ℕ) → Type 0
+AsksForReply command (Ok reply) old new = new ≡ old ++ names_before (outcome_of reply) command
+AsksForReply command (Err stop) old new = AsksFor (names_of command) old new

@@ -1,0 +1,32 @@
+-- What is printed of an answer.
+use Rattle.std.specs.Prelude.{ℕ, suc, ◌^◌, ◌≤◌, ◌++◌, List, [], ◌∷◌, codes, decimal}
+use Rattle.decimal_text.specs.Text.{text12}
+use Rattle.session.specs.declared.report.Verdict.{Verdict}
+use Rattle.session.specs.declared.report.Verdict.TheVariants.{Satisfied, Refuted, Undecided}
+use Rattle.session.specs.declared.report.StateAnswer.{StateAnswer}
+
+abbrev pub verdict_text : Verdict → List ℕ
+verdict_text Satisfied = codes "satisfied"
+verdict_text Refuted = codes "refuted"
+verdict_text Undecided = codes "undecided"
+
+-- the line of a state, which is numbered from 1: its verdict and the ends of its bracket
+abbrev pub state_line : ℕ → StateAnswer → List ℕ
+state_line number answer =
+    decimal number ++ 32 ∷ verdict_text answer.verdict ++ 32 ∷ text12 answer.bracket.low ++ 32 ∷ text12 answer.bracket.high ++ 10 ∷ []
+
+-- the lines of states that follow one another, the first with this number
+abbrev pub state_lines : ℕ → List StateAnswer → List ℕ
+state_lines number [] = []
+state_lines number (answer ∷ answers) = state_line number answer ++ state_lines (suc number) answers
+
+abbrev pub formula_line : List ℕ → List ℕ
+formula_line formula = codes "formula " ++ formula ++ 10 ∷ []
+
+-- the lines of an answered formula
+abbrev pub answer_text : List ℕ → List StateAnswer → List ℕ
+answer_text formula states = formula_line formula ++ state_lines 1 states
+
+-- both ends are probabilities, in units of `10^-12`
+abbrev pub IsPrintable : StateAnswer → Type 0
+IsPrintable answer = (answer.bracket.low ≤ 10 ^ 12) × (answer.bracket.high ≤ 10 ^ 12)

@@ -1,0 +1,86 @@
+-- What the top call promises.
+use Rattle.std.specs.Prelude.{◌≡◌, ℕ, ◌<◌, List, ◌++◌, length, take, Option, IfSome, IsSome, slice_get, IsSomeAnd}
+use Rattle.std.specs.Io.KnownBytes.{Appends}
+use Rattle.outside.specs.Shelf.{Pair, file_named}
+use Rattle.outside.specs.Whole.{WritesFront}
+use Rattle.ctmc_semantics.specs.Fraction.{decimal_fraction}
+use Rattle.ctmc_semantics.specs.Next.{next_probability}
+use Rattle.decimal_text.specs.DecimalNumber.{DecimalNumber}
+use Rattle.model_core.specs.Model.{has_label}
+use Rattle.session.specs.Command.{FileNames, names_of}
+use Rattle.session.specs.NextAnswer.{IsExact}
+use Rattle.session.specs.Outcome.{Outcome, IsOutcome, outcome_text, outcome_status, TakesModel, TakesFormula, first_name, tra_chain}
+use Rattle.session.specs.PlainFormula.{formula_text}
+use Rattle.session.specs.Report.{answer_text}
+use Rattle.session.specs.declared.report.StateAnswer.{StateAnswer}
+use Rattle.session.specs.declared.status.Fault.TheVariants.{Read, Write}
+use Rattle.session.specs.declared.status.Part.TheVariants.{TraFile, LabFile, Formula}
+use Rattle.session.specs.declared.status.Status.{Status}
+use Rattle.session.specs.declared.status.Status.TheVariants.{Done, Usage, NotBuilt, Outside, Memory}
+
+-- all of the text is written and flushed
+pub record Says (before now : Option (List ℕ)) (flushed : ℕ) (text : List ℕ) : Type 0 where
+  pub written : Appends before now text
+  pub all_flushed : IfSome now (λ bytes. flushed ≡ length bytes)
+
+-- the words, the files and the formulas have an outcome of this status, and its text is written and flushed
+pub record Settles (words : List (List ℕ)) (files : Option (List Pair)) (left_before left_now before now : Option (List ℕ)) (flushed : ℕ) (status : Status) : Type 0 where
+  pub outcome : Outcome
+  pub is_outcome : IsOutcome words files left_before left_now outcome
+  pub is_status : status ≡ outcome_status outcome
+  pub says : Says before now flushed (outcome_text outcome)
+
+-- the answer for each state is exact: its bracket contains the probability that the next state has the label,
+-- it is satisfied exactly where this meets the threshold, and refuted exactly where it doesn't
+pub record AnswersExactly (names : FileNames) (files : Option (List Pair)) (left_before left_now before now : Option (List ℕ)) : Type 0 where
+  pub model : TakesModel names files
+  pub threshold : DecimalNumber
+  pub takes_formula : TakesFormula (first_name model.lab.names) left_before left_now threshold
+  pub states : List StateAnswer
+  pub printed : Appends before now (answer_text (formula_text (first_name model.lab.names) threshold) states)
+  pub each_state : length states ≡ model.tra.n
+  pub exact : (s : ℕ) → s < model.tra.n → IsSomeAnd (slice_get states s)
+      (IsExact (next_probability (tra_chain model.tra) (has_label model.lab.marks 0) s) (decimal_fraction threshold.c threshold.x))
+
+-- a front of the outcome's text is written
+pub record IsCutShort (words : List (List ℕ)) (files : Option (List Pair)) (left_before left_now before now : Option (List ℕ)) : Type 0 where
+  pub outcome : Outcome
+  pub is_outcome : IsOutcome words files left_before left_now outcome
+  pub front : WritesFront (outcome_text outcome) before now
+
+-- these names were asked for, or a front of them
+pub record AsksFor (names : List (List ℕ)) (old new : List (List ℕ)) : Type 0 where
+  pub count : ℕ
+  pub appended : new ≡ old ++ take count names
+
+-- the names that were asked for, where all was taken that the status needs
+abbrev pub AsksBy : Status → Option FileNames → List (List ℕ) → List (List ℕ) → Type 0
+AsksBy Done command old new = new ≡ old ++ names_of command
+AsksBy Usage command old new = new ≡ old
+AsksBy (NotBuilt TraFile) command old new = new ≡ old ++ take 1 (names_of command)
+AsksBy (NotBuilt LabFile) command old new = new ≡ old ++ names_of command
+AsksBy (NotBuilt Formula) command old new = new ≡ old ++ names_of command
+AsksBy (Outside fault) command old new = AsksFor (names_of command) old new
+AsksBy Memory command old new = AsksFor (names_of command) old new
+
+-- a status that may come where the words are no command
+abbrev pub IsUsageOrLost : Status → Type 0
+IsUsageOrLost Usage = Unit {0}
+IsUsageOrLost (Outside Write) = Unit {0}
+IsUsageOrLost Memory = Unit {0}
+IsUsageOrLost (Outside Read) = ⊥
+IsUsageOrLost Done = ⊥
+IsUsageOrLost (NotBuilt part) = ⊥
+
+-- the answer is lost to a fault or to want of memory, or else P
+abbrev pub IsLostOr : Status → Type 0 → Type 0
+IsLostOr (Outside fault) P = Unit {0}
+IsLostOr Memory P = Unit {0}
+IsLostOr Done P = P
+IsLostOr Usage P = P
+IsLostOr (NotBuilt part) P = P
+
+-- both files are there
+pub record AreThere (names : FileNames) (pairs : List Pair) : Type 0 where
+  pub tra : IsSome (file_named names.tra pairs)
+  pub lab : IsSome (file_named names.lab pairs)

@@ -1,0 +1,21 @@
+//! One command of the program, from the words to the bytes.
+#![tactic(auto)]
+
+mod command;
+mod nested_verdict;
+mod plain_formula;
+mod plain_lab;
+mod plain_text;
+mod plain_tra;
+mod reading;
+mod report;
+mod status;
+mod sure;
+mod top;
+
+pub use status::{Fault, Part, Status};
+pub use sure::serve_surely;
+pub use top::serve;
+
+#[cfg(test)]
+mod tests;

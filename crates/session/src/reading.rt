@@ -1,0 +1,211 @@
+// What is answered to the words, the files and the formulas.
+ghost use Rattle.std.specs.Prelude.{◌≡◌, ℕ, ◌⊎◌, List, [], ◌∷◌, ◌++◌, map, string_bytes, length, IfOk, IfSome, IsErr, IsErrOf, IsNone, IsSomeAnd, ◌≤◌};
+ghost use Rattle.outside.specs.Causes.{Rose};
+ghost use Rattle.session.specs.Command.{file_names, command_of};
+ghost use Rattle.session.specs.Outcome.{IsOutcome, TakesModel, outcome_status};
+ghost use Rattle.session.specs.Reading.{outcome_of, IsWritable, IsFileReading, IsTraReading, IsLabReading, IsModelReading, IsFormulaReading, AsksForFile, AsksForModel, AsksForReply, IsFormulaOutcome};
+
+use crate::command::read_words;
+use crate::nested_verdict::check_next;
+use crate::plain_formula::{read_plain_formula, without_line_end};
+use crate::plain_lab::read_plain_lab;
+use crate::plain_tra::read_plain_tra;
+use crate::report::StateAnswer;
+use crate::{Part, Status};
+use decimal_text::Decimal;
+use model_core::{Lab, Model, Tra};
+use outside::{Files, Source, TakeFault, read_whole};
+use std::alloc::{AllocError, Global};
+
+/// What is written out.
+#[derive(Drop)]
+pub(crate) enum Reply {
+    Usage,
+    NotBuilt(Part),
+    Answer(Answer),
+}
+
+/// The answer to a formula: its canonical text, and what holds at each state.
+#[derive(Drop)]
+pub(crate) struct Answer {
+    pub(crate) formula: Vec<u8>,
+    pub(crate) states: Vec<StateAnswer>,
+}
+
+impl Reply {
+    pub(crate) fn status(&self) -> Status
+        ensures { result ≡ outcome_status (outcome_of self.now) }
+    {
+        match self {
+            Reply::Usage => Status::Usage,
+            Reply::NotBuilt(part) => Status::NotBuilt(*part),
+            Reply::Answer(_) => Status::Done,
+        }
+    }
+}
+
+/// Why there is no reply.
+#[derive(Clone, Copy, Debug, PartialEq, Eq)]
+pub(crate) enum Stop {
+    Read,
+    Memory,
+}
+
+impl From<AllocError> for Stop {
+    ghost use Rattle.std.specs.Prelude.{◌≡◌};
+    ghost use Rattle.session.specs.declared.reading.Stop.TheVariants.{Memory};
+
+    ghost from_gives = { λ _ stop. stop ≡ Memory };
+
+    fn from(_: AllocError) -> Self {
+        Stop::Memory
+    }
+}
+
+/// A model, or the first file that isn't of the plain form.
+#[derive(Drop)]
+pub(crate) enum ModelReading {
+    Built(Model),
+    NotBuilt(Part),
+}
+
+// 1 MiB.
+const FORMULAS_LIMIT: usize = 1_048_576;
+
+/// Reads the words, what they name, and then the formulas to their end.
+pub(crate) fn read_reply<F: Files, S: Source>(
+    alloc: Global,
+    words: &[String],
+    files: &mut F,
+    formulas: &mut S,
+) -> Result<Reply, Stop>
+    ensures outcome { IfOk result (λ reply. IsOutcome (map string_bytes words.now) (F.files files.old) (S.left formulas.old) (S.left formulas.new) (outcome_of reply)) }
+    ensures writable { IfOk result IsWritable }
+    ensures command { IsErr result → ¬ IsNone (command_of (map string_bytes words.now)) }
+    ensures read { IsErrOf result Stop.Read → (Rose (F.fault_count files.old) (F.fault_count files.new)
+        ⊎ (Rose (S.fault_count formulas.old) (S.fault_count formulas.new)
+        × IsSomeAnd (command_of (map string_bytes words.now)) (λ names. TakesModel names (F.files files.old)))) }
+    ensures files { F.files files.new ≡ F.files files.old }
+    ensures asked { IfSome (F.files files.old) (λ _. AsksForReply (command_of (map string_bytes words.now)) result (F.asked files.old) (F.asked files.new)) }
+    ensures files_later { F.fault_count files.old ≤ F.fault_count files.new }
+    ensures formulas_later { S.fault_count formulas.old ≤ S.fault_count formulas.new }
+{
+    let Some((tra, lab)) = read_words(words) else {
+        return Ok(Reply::Usage);
+    };
+    match read_model(alloc, files, tra, lab)? {
+        ModelReading::NotBuilt(part) => Ok(Reply::NotBuilt(part)),
+        ModelReading::Built(model) => answer_formula(alloc, &model, formulas),
+    }
+}
+
+// Answers the formula over the one label of the model.
+fn answer_formula<S: Source>(alloc: Global, model: &Model, formulas: &mut S) -> Result<Reply, Stop>
+    requires { length model.now.names ≡ 1 }
+    ensures reply { IfOk result (λ reply. IsFormulaOutcome model.now (S.left formulas.old) (S.left formulas.new) (outcome_of reply)) }
+    ensures writable { IfOk result IsWritable }
+    ensures read { IsErrOf result Stop.Read → Rose (S.fault_count formulas.old) (S.fault_count formulas.new) }
+    ensures later { S.fault_count formulas.old ≤ S.fault_count formulas.new }
+{
+    let name = model.labels()[0].bytes();
+    match read_formula(alloc, formulas, name)? {
+        None => Ok(Reply::NotBuilt(Part::Formula)),
+        Some((formula, threshold)) => {
+            let states = check_next(alloc, model, 0, threshold)?;
+            Ok(Reply::Answer(Answer { formula, states }))
+        }
+    }
+}
+
+// Takes and reads the two files, and builds the model.
+fn read_model<F: Files>(
+    alloc: Global,
+    files: &mut F,
+    tra: &str,
+    lab: &str,
+) -> Result<ModelReading, Stop>
+    ensures model { IfOk result (IsModelReading (file_names tra.now lab.now) (F.files files.old)) }
+    ensures read { IsErrOf result Stop.Read → Rose (F.fault_count files.old) (F.fault_count files.new) }
+    ensures files { F.files files.new ≡ F.files files.old }
+    ensures asked { IfSome (F.files files.old) (λ _. AsksForModel (file_names tra.now lab.now) result (F.asked files.old) (F.asked files.new)) }
+    ensures later { F.fault_count files.old ≤ F.fault_count files.new }
+{
+    let Some(tra) = read_tra(alloc, files, tra)? else {
+        return Ok(ModelReading::NotBuilt(Part::TraFile));
+    };
+    let Some(lab) = read_lab(alloc, files, lab, tra.n())? else {
+        return Ok(ModelReading::NotBuilt(Part::LabFile));
+    };
+    let model = Model::build(alloc, tra, lab, None)?;
+    Ok(ModelReading::Built(model))
+}
+
+fn read_tra<F: Files>(alloc: Global, files: &mut F, name: &str) -> Result<Option<Tra>, Stop>
+    ensures tra { IfOk result (IsTraReading name.now (F.files files.old)) }
+    ensures read { IsErrOf result Stop.Read → Rose (F.fault_count files.old) (F.fault_count files.new) }
+    ensures files { F.files files.new ≡ F.files files.old }
+    ensures asked { IfSome (F.files files.old) (λ _. AsksForFile name.now result (F.asked files.old) (F.asked files.new)) }
+    ensures later { F.fault_count files.old ≤ F.fault_count files.new }
+{
+    match take_file(alloc, files, name)? {
+        None => Ok(None),
+        Some(bytes) => Ok(read_plain_tra(alloc, &bytes)?),
+    }
+}
+
+fn read_lab<F: Files>(alloc: Global, files: &mut F, name: &str, n: u32) -> Result<Option<Lab>, Stop>
+    requires some { 1 ≤ n }
+    requires few { n ≤ 65536 }
+    ensures lab { IfOk result (IsLabReading n name.now (F.files files.old)) }
+    ensures read { IsErrOf result Stop.Read → Rose (F.fault_count files.old) (F.fault_count files.new) }
+    ensures files { F.files files.new ≡ F.files files.old }
+    ensures asked { IfSome (F.files files.old) (λ _. AsksForFile name.now result (F.asked files.old) (F.asked files.new)) }
+    ensures later { F.fault_count files.old ≤ F.fault_count files.new }
+{
+    match take_file(alloc, files, name)? {
+        None => Ok(None),
+        Some(bytes) => Ok(read_plain_lab(alloc, &bytes, n)?),
+    }
+}
+
+// The bytes of a file, or none where there are too many.
+fn take_file<F: Files>(alloc: Global, files: &mut F, name: &str) -> Result<Option<Vec<u8>>, Stop>
+    ensures bytes { IfOk result (IsFileReading name.now (F.files files.old)) }
+    ensures read { IsErrOf result Stop.Read → Rose (F.fault_count files.old) (F.fault_count files.new) }
+    ensures files { F.files files.new ≡ F.files files.old }
+    ensures asked { IfSome (F.files files.old) (λ _. AsksForFile name.now result (F.asked files.old) (F.asked files.new)) }
+    ensures later { F.fault_count files.old ≤ F.fault_count files.new }
+{
+    match files.take(alloc, name) {
+        Ok(bytes) => Ok(Some(bytes)),
+        Err(TakeFault::TooBig) => Ok(None),
+        Err(TakeFault::Failed) => Err(Stop::Read),
+        Err(TakeFault::Memory) => Err(Stop::Memory),
+    }
+}
+
+// The text and the threshold of the formula, where the formulas are one plain formula over the name.
+fn read_formula<S: Source>(
+    alloc: Global,
+    formulas: &mut S,
+    name: &[u8],
+) -> Result<Option<(Vec<u8>, Decimal)>, Stop>
+    ensures formula { IfOk result (IsFormulaReading name.now (S.left formulas.old) (S.left formulas.new)) }
+    ensures read { IsErrOf result Stop.Read → Rose (S.fault_count formulas.old) (S.fault_count formulas.new) }
+    ensures later { S.fault_count formulas.old ≤ S.fault_count formulas.new }
+{
+    let mut text = match read_whole(alloc, formulas, FORMULAS_LIMIT) {
+        Ok(text) => text,
+        Err(TakeFault::TooBig) => return Ok(None),
+        Err(TakeFault::Failed) => return Err(Stop::Read),
+        Err(TakeFault::Memory) => return Err(Stop::Memory),
+    };
+    match read_plain_formula(&text, name) {
+        None => Ok(None),
+        Some(threshold) => {
+            let line = without_line_end(&text).len();
+            text.truncate(line);
+            Ok(Some((text, threshold)))
+        }
+    }
+}

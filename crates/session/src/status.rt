@@ -1,0 +1,49 @@
+// How a command ends.
+ghost use Rattle.std.specs.Prelude.{◌≡◌};
+
+/// A part of the input that only a plain form of is built today.
+#[derive(Clone, Copy, Debug, PartialEq, Eq)]
+pub enum Part {
+    TraFile,
+    LabFile,
+    Formula,
+}
+
+/// What of the outside failed: a file or the formulas, or the output.
+#[derive(Clone, Copy, Debug, PartialEq, Eq)]
+pub enum Fault {
+    Read,
+    Write,
+}
+
+#[derive(Clone, Copy, Debug, PartialEq, Eq)]
+pub enum Status {
+    /// The formula is answered; all text is written and flushed.
+    Done,
+    /// The words are no command; the usage line is written and flushed.
+    Usage,
+    /// This is the first part, in the order of the files and the formulas, that isn't of the plain form, or that has
+    /// too many bytes; its line is written and flushed.
+    NotBuilt(Part),
+    /// The outside failed. A front of the text is written.
+    Outside(Fault),
+    /// Memory ran out. A front of the text is written.
+    Memory,
+}
+
+impl Status {
+    ghost use Rattle.session.specs.ExitCode.{exit_code_of};
+
+    /// The exit status of the program.
+    pub fn exit_code(self) -> u8
+        ensures { result ≡ exit_code_of self }
+    {
+        match self {
+            Status::Done => 0,
+            Status::Usage => 2,
+            Status::Outside(_) => 4,
+            Status::Memory => 5,
+            Status::NotBuilt(_) => 6,
+        }
+    }
+}

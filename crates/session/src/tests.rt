@@ -1,0 +1,252 @@
+use super::*;
+use outside::{MemFiles, MemSink, MemSource, OpenGate, SureFiles, SureSink, SureSource};
+use std::alloc::{AllocError, Global};
+use std::test::Fail;
+use std::thread::Threads;
+
+const TRA: &[u8] = b"STATES 3\nTRANSITIONS 2\n1 2 3\n1 3 7\n";
+
+const LAB: &[u8] = b"#DECLARATION\na\n#END\n2 a\n";
+
+const FORMULA: &[u8] = b"P{>=0.3}[X a]\n";
+
+const ANSWER: &[u8] =
+    b"formula P{>=0.3}[X a]\n1 satisfied 0.300000000000 0.300000000000\n2 refuted 0.000000000000 0.000000000000\n3 refuted 0.000000000000 0.000000000000\n";
+
+const USAGE: &[u8] =
+    b"usage: mrmc_any (ctmc M.tra M.lab | cmrm M.tra M.lab M.rew) [--workers 1..64] [--bits 8..48] [--jumps 1..16384] [--watch 0..1000] [--state 1..65536]\n";
+
+fn words(alloc: Global, texts: &[&str]) -> Result<Vec<String>, AllocError> {
+    let mut words = Vec::new(alloc);
+    for text in texts {
+        words.push(String::from_str(alloc, text)?)?;
+    }
+    Ok(words)
+}
+
+fn files(alloc: Global, tra: &[u8], lab: &[u8]) -> Result<Vec<(String, Vec<u8>)>, AllocError> {
+    let mut files = Vec::new(alloc);
+    files.push((String::from_str(alloc, "M.tra")?, tra.to_vec(alloc)?))?;
+    files.push((String::from_str(alloc, "M.lab")?, lab.to_vec(alloc)?))?;
+    Ok(files)
+}
+
+// Serves over objects that don't fail, each of which moves at most `cut` bytes in one call.
+fn answered(
+    rt: &(impl Threads + Sync + AllocGlobal),
+    model: (&[u8], &[u8]),
+    formulas: &[u8],
+    cut: usize,
+) -> Result<(Status, Vec<u8>), Fail> {
+    let alloc = rt.alloc();
+    let words = words(alloc, &["mrmc_any", "ctmc", "M.tra", "M.lab"])?;
+    let mut shelf = SureFiles::new(files(alloc, model.0, model.1)?);
+    let mut source = SureSource::new(formulas.to_vec(alloc)?, cut);
+    let mut sink = SureSink::new(Vec::new(alloc), cut);
+    let status = serve(
+        rt,
+        alloc,
+        &words,
+        &mut shelf,
+        &mut source,
+        &mut sink,
+        &OpenGate,
+    );
+    Ok((status, sink.bytes().to_vec(alloc)?))
+}
+
+#[test]
+fn a_next_formula_is_answered_whatever_one_call_moves(rt: HostRuntime) -> Result<(), Fail> {
+    for cut in [0, 1, 7] {
+        let (status, text) = answered(&rt, (TRA, LAB), FORMULA, cut)?;
+        assert_eq!(rt; status, Status::Done, "at {cut}");
+        assert_eq!(rt; text.as_slice(), ANSWER, "at {cut}");
+    }
+    let (status, text) = answered(&rt, (TRA, LAB), b"P{>=0.3}[X a]", 0)?;
+    assert_eq!(rt; status, Status::Done);
+    assert_eq!(rt; text.as_slice(), ANSWER);
+    Ok(())
+}
+
+#[test]
+fn a_chain_that_is_not_plain_is_not_built(rt: HostRuntime) -> Result<(), Fail> {
+    let texts: [&[u8]; 16] = [
+        b"",
+        b"STATE 3\nTRANSITIONS 2\n1 2 3\n1 3 7\n",
+        b"STATES 0\nTRANSITIONS 0\n",
+        b"STATES 03\nTRANSITIONS 2\n1 2 3\n1 3 7\n",
+        b"STATES 65537\nTRANSITIONS 0\n",
+        b"STATES 3\nTRANSITION 2\n1 2 3\n1 3 7\n",
+        b"STATES 3\nTRANSITIONS 1000001\n1 2 3\n1 3 7\n",
+        b"STATES 3\nTRANSITIONS 3\n1 2 3\n1 3 7\n",
+        b"STATES 3\nTRANSITIONS 1\n1 2 3\n1 3 7\n",
+        b"STATES 3\nTRANSITIONS 2\n0 2 3\n1 3 7\n",
+        b"STATES 3\nTRANSITIONS 2\n1 4 3\n1 3 7\n",
+        b"STATES 3\nTRANSITIONS 2\n1 2 0\n1 3 7\n",
+        b"STATES 3\nTRANSITIONS 2\n1 2 1000000000000\n1 3 7\n",
+        b"STATES 3\nTRANSITIONS 2\n1 2 3\n1 2 7\n",
+        b"STATES 3\nTRANSITIONS 2\n1  2 3\n1 3 7\n",
+        b"STATES 3\nTRANSITIONS 2\n1 2 3\n1 3 7",
+    ];
+    for text in texts {
+        let (status, said) = answered(&rt, (text, LAB), FORMULA, 0)?;
+        assert_eq!(rt; status, Status::NotBuilt(Part::TraFile), "at {text:?}");
+        assert_eq!(rt; said.as_slice(), b"not built tra\n".as_slice());
+    }
+    Ok(())
+}
+
+#[test]
+fn labels_that_are_not_plain_are_not_built(rt: HostRuntime) -> Result<(), Fail> {
+    let texts: [&[u8]; 15] = [
+        b"",
+        b"#DECLARATIONS\na\n#END\n2 a\n",
+        b"#DECLARATION\n\n#END\n",
+        b"#DECLARATION\n1\n#END\n2 1\n",
+        b"#DECLARATION\na b\n#END\n2 a\n",
+        b"#DECLARATION\na\nb\n#END\n2 a\n",
+        b"#DECLARATION\nquit\n#END\n2 quit\n",
+        b"#DECLARATION\na\n#EN\n2 a\n",
+        b"#DECLARATION\na\n#END\n0 a\n",
+        b"#DECLARATION\na\n#END\n4 a\n",
+        b"#DECLARATION\na\n#END\n02 a\n",
+        b"#DECLARATION\na\n#END\n2 b\n",
+        b"#DECLARATION\na\n#END\n2 a\n2 a\n",
+        b"#DECLARATION\na\n#END\n2 a\n1 a\n",
+        b"#DECLARATION\na\n#END\n2 a",
+    ];
+    for text in texts {
+        let (status, said) = answered(&rt, (TRA, text), FORMULA, 0)?;
+        assert_eq!(rt; status, Status::NotBuilt(Part::LabFile), "at {text:?}");
+        assert_eq!(rt; said.as_slice(), b"not built lab\n".as_slice());
+    }
+    Ok(())
+}
+
+#[test]
+fn a_formula_that_is_not_plain_is_not_built(rt: HostRuntime) -> Result<(), Fail> {
+    let texts: [&[u8]; 14] = [
+        b"",
+        b"P{>0.3}[X a]\n",
+        b"P{>=.3}[X a]\n",
+        b"P{>=00.3}[X a]\n",
+        b"P{>=0.30}[X a]\n",
+        b"P{>=0.}[X a]\n",
+        b"P{>=1.5}[X a]\n",
+        b"P{>=2}[X a]\n",
+        b"P{>=0.1234567890123456789}[X a]\n",
+        b"P{>=0.3}[X  a]\n",
+        b"P{>=0.3}[X b]\n",
+        b"P{>=0.3}[X a\n",
+        b"P{>=0.3}[X a] \n",
+        b"P{>=0.3}[X a]\n\n",
+    ];
+    for text in texts {
+        let (status, said) = answered(&rt, (TRA, LAB), text, 0)?;
+        assert_eq!(rt; status, Status::NotBuilt(Part::Formula), "at {text:?}");
+        assert_eq!(rt; said.as_slice(), b"not built formula\n".as_slice());
+    }
+    Ok(())
+}
+
+// The smallest and the greatest threshold, and one of 18 digits; a state that can reach nothing, and one that stays.
+#[test]
+fn thresholds_are_compared_exactly(rt: HostRuntime) -> Result<(), Fail> {
+    let tra = b"STATES 2\nTRANSITIONS 2\n1 1 1\n1 2 2\n";
+    let cases: [(&[u8], &[u8]); 4] = [
+        (
+            b"0",
+            b"formula P{>=0}[X a]\n1 satisfied 0.666666666666 0.666666666667\n2 satisfied 0.000000000000 0.000000000000\n",
+        ),
+        (
+            b"1",
+            b"formula P{>=1}[X a]\n1 refuted 0.666666666666 0.666666666667\n2 refuted 0.000000000000 0.000000000000\n",
+        ),
+        (
+            b"0.666666666666666666",
+            b"formula P{>=0.666666666666666666}[X a]\n1 satisfied 0.666666666666 0.666666666667\n2 refuted 0.000000000000 0.000000000000\n",
+        ),
+        (
+            b"0.666666666666666667",
+            b"formula P{>=0.666666666666666667}[X a]\n1 refuted 0.666666666666 0.666666666667\n2 refuted 0.000000000000 0.000000000000\n",
+        ),
+    ];
+    for (threshold, want) in cases {
+        let mut formula = b"P{>=".to_vec(rt.alloc())?;
+        formula.extend_from_slice(threshold)?;
+        formula.extend_from_slice(b"}[X a]\n")?;
+        let (status, text) = answered(&rt, (tra, LAB), &formula, 0)?;
+        assert_eq!(rt; status, Status::Done);
+        assert_eq!(rt; text.as_slice(), want);
+    }
+    Ok(())
+}
+
+#[test]
+fn words_that_are_no_command_are_answered_by_the_usage(rt: HostRuntime) -> Result<(), Fail> {
+    let alloc = rt.alloc();
+    let cases: [&[&str]; 7] = [
+        &[],
+        &["mrmc_any", "ctmc", "M.tra"],
+        &["mrmc_any", "cmrm", "M.tra", "M.lab"],
+        &["mrmc_any", "ctmc", "M.tra", "M.lab", "M.rew"],
+        &["mrmc_any", "ctmc", "-M.tra", "M.lab"],
+        &["mrmc_any", "ctmc", "M.tra", "--help"],
+        &["ctmc", "M.tra", "M.lab"],
+    ];
+    for case in cases {
+        let mut shelf = MemFiles::new(files(alloc, TRA, LAB)?, Vec::new(alloc));
+        let mut source = MemSource::new(FORMULA.to_vec(alloc)?, Vec::new(alloc), 0);
+        let mut sink = MemSink::new(Vec::new(alloc), Vec::new(alloc), 0);
+        let words = words(alloc, case)?;
+        let status = serve(
+            &rt,
+            alloc,
+            &words,
+            &mut shelf,
+            &mut source,
+            &mut sink,
+            &OpenGate,
+        );
+        assert_eq!(rt; status, Status::Usage);
+        assert_eq!(rt; sink.bytes(), USAGE);
+    }
+    Ok(())
+}
+
+// One call fails: of the files, of the formulas, or of the output, where the fifth call is the flush.
+#[test]
+fn each_failing_call_is_told_apart(rt: HostRuntime) -> Result<(), Fail> {
+    let alloc = rt.alloc();
+    let read = Status::Outside(Fault::Read);
+    let write = Status::Outside(Fault::Write);
+    for (taking, reading, writing, want, lines) in [
+        (1, 0, 0, read, 0),
+        (2, 0, 0, read, 0),
+        (0, 1, 0, read, 0),
+        (0, 2, 0, read, 0),
+        (0, 0, 1, write, 0),
+        (0, 0, 2, write, 22),
+        (0, 0, 3, write, 64),
+        (0, 0, 4, write, 104),
+        (0, 0, 5, write, 144),
+        (0, 0, 6, Status::Done, 144),
+    ] {
+        let mut shelf = MemFiles::new(files(alloc, TRA, LAB)?, vec![in alloc; taking]?);
+        let mut source = MemSource::new(FORMULA.to_vec(alloc)?, vec![in alloc; reading]?, 0);
+        let mut sink = MemSink::new(Vec::new(alloc), vec![in alloc; writing]?, 0);
+        let words = words(alloc, &["mrmc_any", "ctmc", "M.tra", "M.lab"])?;
+        let status = serve(
+            &rt,
+            alloc,
+            &words,
+            &mut shelf,
+            &mut source,
+            &mut sink,
+            &OpenGate,
+        );
+        assert_eq!(rt; status, want, "at {taking} {reading} {writing}");
+        assert!(rt; sink.bytes() == ANSWER.get(..lines).unwrap_or(ANSWER));
+    }
+    Ok(())
+}
