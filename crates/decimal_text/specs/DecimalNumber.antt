@@ -23,3 +23,8 @@ IsSameNumber d e = d.c * 10 ^ e.x ≡ e.c * 10 ^ d.x
 -- a number has one normal form at most
 abbrev pub NormalFormIsUnique : Type 0
 NormalFormIsUnique = (d e : DecimalNumber) → IsNormal d → IsNormal e → IsSameNumber d e → d ≡ e
+
+-- d is the normal form of `m * 10^up / 10^down`
+pub record IsNormalFormOf (m up down : ℕ) (d : DecimalNumber) : Type 0 where
+  pub normal : IsNormal d
+  pub same : m * 10 ^ up * 10 ^ d.x ≡ d.c * 10 ^ down

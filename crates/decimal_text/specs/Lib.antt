@@ -1,3 +1,6 @@
 pub mod Digits
 pub mod DecimalNumber
 pub mod Text
+pub mod Spelling
+pub mod NumberValue
+pub mod Reading

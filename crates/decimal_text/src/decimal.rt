@@ -1,5 +1,11 @@
 use std::marker::Model;
 
+// The least number that no decimal's `c` can be.
+pub const LIMIT: u64 = 1_000_000_000_000_000_000;
+
+// The most decimals that a decimal can have.
+pub const MOST_DECIMALS: usize = 18;
+
 /// The number `c / 10^x`.
 ///
 /// `c` is below `10^18` and `x` at most 18, and the number is in normal form: `x` is 0, or 10

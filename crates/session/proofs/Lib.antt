@@ -1,4 +1,5 @@
 pub mod Fronts
+pub mod Outcomes
 pub mod PlainFormulas
 pub mod PlainHeads
 pub mod PlainLabels
@@ -8,8 +9,7 @@ pub mod PlainNames
 pub mod PlainNumbers
 pub mod PlainPairs
 pub mod PlainRates
-pub mod PlainThresholds
-pub mod Outcomes
+pub mod PlainWords
 pub mod Readings
 pub mod Rounding
 pub mod Served

@@ -1,18 +1,17 @@
 -- What is answered to words, files and formulas: it is one outcome at most, and an answer is exact.
-use Rattle.std.proofs.Common.{◌≡◌, ℕ, ◌<◌, ◌≤◌, ◌⊎◌, List, ◌++◌, length, Option, Some, None, IsNone, IsSomeAnd, inl, inr, refl, sym, ap, ◌∙◌, subst, arith, append-nil, length-append}
+use Rattle.std.proofs.Common.{◌≡◌, ℕ, Bool, ◌<◌, ◌≤◌, ◌⊎◌, List, ◌++◌, length, Option, Some, None, IsNone, IsSomeAnd, inl, inr, refl, sym, ap, ◌∙◌, subst, arith, append-nil, length-append}
 use Rattle.std.specs.Io.KnownBytes.{Consumes, IsAtEnd}
 use Rattle.std.proofs.lemmas.Bool.{false≢true}
 use Rattle.outside.specs.Shelf.{Pair, IsFile, IsTooBig, file_limit}
-use Rattle.ctmc_semantics.specs.Fraction.{decimal_fraction}
-use Rattle.decimal_text.specs.DecimalNumber.{DecimalNumber}
+use Rattle.ctmc_semantics.specs.Chain.{Chain}
 use Rattle.model_core.specs.Files.{TraLists, LabLists}
-use Rattle.model_core.specs.Model.{has_label}
 use Rattle.session.specs.Command.{FileNames}
-use Rattle.session.specs.NextAnswer.{next_answers}
-use Rattle.session.specs.Outcome.{Outcome, Usage, NotBuilt, Answered, TakesTra, TakesLab, TakesModel, TakesOtherTra, TakesOtherLab, TakesFormula, TakesOtherFormula, TakesTooMuch, IsFileNotBuilt, IsNotBuilt, IsAnswered, IsOutcomeOf, first_name, tra_chain}
+use Rattle.session.specs.Outcome.{Outcome, Usage, NotBuilt, Answered, TakesTra, TakesLab, TakesModel, TakesOtherTra, TakesOtherLab, TakesFormula, IsOtherInput, IsFileNotBuilt, IsNotBuilt, IsAnswered, IsOutcomeOf, first_name, tra_chain, lab_goal}
+use Rattle.session.specs.FormulaAnswer.{Answers, Unbuilt, formula_answer}
 use Rattle.session.specs.PlainFormula.{formula_text, IsPlainFormula}
 use Rattle.session.specs.PlainLab.{IsPlainLab}
 use Rattle.session.specs.PlainTra.{IsPlainTra}
+use Rattle.session.specs.declared.plain_formula.PlainFormula.{PlainFormula}
 use Rattle.session.specs.declared.report.StateAnswer.{StateAnswer}
 use Rattle.session.specs.declared.status.Part.{Part}
 use Rattle.session.specs.declared.status.Part.TheVariants.{TraFile, LabFile, Formula}
@@ -22,6 +21,12 @@ use Rattle.session.proofs.PlainLabs.{plain_lab_unique}
 
 some_same : (a b : List ℕ) → Some a ≡ Some b → a ≡ b
 some_same a b e = cc
+
+pub answered_or_not : (xs : List StateAnswer) → Answers xs ≡ Unbuilt → ⊥
+answered_or_not xs e = cc
+
+pub same_answers : (xs ys : List StateAnswer) → Answers xs ≡ Answers ys → xs ≡ ys
+same_answers xs ys e = cc
 
 is_some : (names : FileNames) → IsNone (Some names) → ⊥
 is_some names e = false≢true (sym e)
@@ -90,16 +95,20 @@ module _ (left : List ℕ) where
   some_taken None bytes p = absurd p
   some_taken (Some rest) bytes p = omega (arith, ap length p, length-append bytes rest)
 
-  one_formula : (name : List ℕ) (u v : Option (List ℕ)) (c d : DecimalNumber) → TakesFormula name (Some left) u c → TakesFormula name (Some left) v d → c ≡ d
-  one_formula name u v c d p q =
+  one_formula : (name : List ℕ) (u v : Option (List ℕ)) (f g : PlainFormula) → TakesFormula name (Some left) u f → TakesFormula name (Some left) v g → f ≡ g
+  one_formula name u v f g p q =
       let same : q.bytes ≡ p.bytes = sym (all_taken v q.bytes q.taken q.end) ∙ all_taken u p.bytes p.taken p.end in
-      plain_formula_unique name p.bytes c d p.plain (subst (λ t. IsPlainFormula name t d) same q.plain)
+      plain_formula_unique name p.bytes f g p.plain (subst (λ t. IsPlainFormula name t g) same q.plain)
 
-  no_formula : (name : List ℕ) (u v : Option (List ℕ)) (c : DecimalNumber) → TakesFormula name (Some left) u c → TakesTooMuch (Some left) v ⊎ TakesOtherFormula name (Some left) v → ⊥
-  no_formula name u v c p (inl q) = omega (arith, p.within, q.long, some_taken v q.bytes q.taken, ap length (all_taken u p.bytes p.taken p.end))
-  no_formula name u v c p (inr q) =
+  no_answer : (name : List ℕ) (chain : Chain) (goal : ℕ → Bool) (u v : Option (List ℕ)) (f : PlainFormula) (xs : List StateAnswer)
+      → TakesFormula name (Some left) u f → formula_answer chain goal f ≡ Answers xs → IsOtherInput name chain goal (Some left) v → ⊥
+  no_answer name chain goal u v f xs p built (inl q) =
+      omega (arith, p.within, q.long, some_taken v q.bytes q.taken, ap length (all_taken u p.bytes p.taken p.end))
+  no_answer name chain goal u v f xs p built (inr (inl q)) =
       let same : p.bytes ≡ q.bytes = sym (all_taken u p.bytes p.taken p.end) ∙ all_taken v q.bytes q.taken q.end in
-      q.other c (subst (λ t. IsPlainFormula name t c) same p.plain)
+      q.other f (subst (λ t. IsPlainFormula name t f) same p.plain)
+  no_answer name chain goal u v f xs p built (inr (inr q)) =
+      answered_or_not xs (sym built ∙ ap (formula_answer chain goal) (one_formula name u v f q.formula p q.takes) ∙ q.unbuilt)
 
 -- ---- one outcome
 module _ (pairs : List Pair) (left : List ℕ) (u v : Option (List ℕ)) (names : FileNames) where
@@ -107,14 +116,15 @@ module _ (pairs : List Pair) (left : List ℕ) (u v : Option (List ℕ)) (names 
   one_answer f g xs ys p q =
       let model = one_model pairs names p.model q.model in
       let name : first_name q.model.lab.names ≡ first_name p.model.lab.names = ap (λ l. first_name l.names) (sym model.lab) in
-      let same : p.threshold ≡ q.threshold =
-      one_formula left (first_name p.model.lab.names) u v p.threshold q.threshold p.takes_formula (subst (λ n. TakesFormula n (Some left) v q.threshold) name q.takes_formula) in (
-        (p.is_formula ∙ ap (λ n. formula_text n p.threshold) (sym name) ∙ ap (formula_text (first_name q.model.lab.names)) same ∙ sym q.is_formula),
-        (p.are_states
-            ∙ ap (λ t. next_answers (tra_chain t) (has_label p.model.lab.marks 0) (decimal_fraction p.threshold.c p.threshold.x)) model.tra
-            ∙ ap (λ l. next_answers (tra_chain q.model.tra) (has_label l.marks 0) (decimal_fraction p.threshold.c p.threshold.x)) model.lab
-            ∙ ap (λ d. next_answers (tra_chain q.model.tra) (has_label q.model.lab.marks 0) (decimal_fraction d.c d.x)) same
-            ∙ sym q.are_states),
+      let same : p.formula ≡ q.formula =
+      one_formula left (first_name p.model.lab.names) u v p.formula q.formula p.takes_formula (subst (λ n. TakesFormula n (Some left) v q.formula) name q.takes_formula) in (
+        (p.is_text ∙ ap (λ n. formula_text n p.formula) (sym name) ∙ ap (formula_text (first_name q.model.lab.names)) same ∙ sym q.is_text),
+        same_answers xs ys
+            (sym p.are_states
+            ∙ ap (λ t. formula_answer (tra_chain t) (lab_goal p.model.lab) p.formula) model.tra
+            ∙ ap (λ l. formula_answer (tra_chain q.model.tra) (lab_goal l) p.formula) model.lab
+            ∙ ap (λ d. formula_answer (tra_chain q.model.tra) (lab_goal q.model.lab) d) same
+            ∙ q.are_states),
       )
 
   answer_not_part : (f : List ℕ) (xs : List StateAnswer) (part : Part) → IsAnswered names (Some pairs) (Some left) u f xs → IsNotBuilt names (Some pairs) (Some left) v part → ⊥
@@ -122,8 +132,9 @@ module _ (pairs : List Pair) (left : List ℕ) (u v : Option (List ℕ)) (names 
   answer_not_part f xs LabFile p q = no_model pairs names p.model LabFile q.0
   answer_not_part f xs Formula p q =
       let model = one_model pairs names q.model p.model in
-      no_formula left (first_name p.model.lab.names) u v p.threshold p.takes_formula
-      (subst (λ l. TakesTooMuch (Some left) v ⊎ TakesOtherFormula (first_name l.names) (Some left) v) model.lab q.other)
+      no_answer left (first_name p.model.lab.names) (tra_chain p.model.tra) (lab_goal p.model.lab) u v p.formula xs p.takes_formula p.are_states
+      (subst (λ t. IsOtherInput (first_name p.model.lab.names) (tra_chain t) (lab_goal p.model.lab) (Some left) v) model.tra
+      (subst (λ l. IsOtherInput (first_name l.names) (tra_chain q.model.tra) (lab_goal l) (Some left) v) model.lab q.other))
 
   one_part : (a b : Part) → IsNotBuilt names (Some pairs) (Some left) u a → IsNotBuilt names (Some pairs) (Some left) v b → a ≡ b
   one_part TraFile TraFile p q = refl

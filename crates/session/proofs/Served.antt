@@ -1,5 +1,6 @@
 -- What the top call promises, from what it read and wrote.
-use Rattle.std.proofs.Common.{◌≡◌, ℕ, ◌<◌, ◌⊎◌, List, [], ◌∷◌, ◌++◌, length, Option, Some, None, IfSome, IsSomeAnd, Result, Ok, Err, IfOk, refl, sym, ap, ◌∙◌, subst, arith, rules, get_or, Bool}
+use Rattle.std.proofs.Common.{◌≡◌, ℕ, ◌<◌, List, [], ◌∷◌, ◌++◌, length, Option, Some, None, IfSome, IsSomeAnd, Result, Ok, Err, IfOk, inl, inr, refl, sym, ap, ◌∙◌, subst, arith, rules, get_or, Bool}
+use Rattle.std.specs.declared.alloc.AllocError.{AllocError}
 use Rattle.std.specs.List.{slice_get}
 use Rattle.std.specs.Io.KnownBytes.{Appends}
 use Rattle.std.proofs.lemmas.List.FromFn.{length-map-range_with_len, get_or-map-range_with_len}
@@ -9,24 +10,28 @@ use Rattle.outside.specs.Shelf.{Pair}
 use Rattle.ctmc_semantics.specs.Chain.{Chain}
 use Rattle.ctmc_semantics.specs.Fraction.{Fraction, decimal_fraction}
 use Rattle.ctmc_semantics.specs.Next.{next_probability}
+use Rattle.ctmc_semantics.specs.Threshold.{Comparison}
 use Rattle.model_core.specs.declared.rate.Rate.{Rate}
 use Rattle.model_core.specs.Model.{ModelLists, has_label, model_chain}
 use Rattle.model_core.specs.Transitions.{chain_of}
 use Rattle.std.specs.List.Sorted.{IsPermutation}
 use Rattle.session.specs.Command.{FileNames, names_of}
+use Rattle.session.specs.FormulaAnswer.{Answers, formula_answer, IsExactAnswer}
 use Rattle.session.specs.NextAnswer.{IsExact, next_answer, next_answers}
-use Rattle.session.specs.Outcome.{Outcome, Usage, NotBuilt, Answered, TakesFormula, TakesOtherFormula, TakesTooMuch, IsOutcomeOf, first_name, tra_chain, outcome_text, outcome_status}
-use Rattle.session.specs.Reading.{IsModelOf, IsFormulaOutcome, AsksForReply, outcome_of, names_before}
-use Rattle.session.specs.PlainFormula.{formula_text}
+use Rattle.session.specs.Outcome.{Outcome, Usage, NotBuilt, Answered, TakesFormula, TakesOtherFormula, IsOtherInput, IsOutcomeOf, first_name, tra_chain, lab_goal, outcome_text, outcome_status}
+use Rattle.session.specs.Reading.{IsModelOf, IsFormulaOutcome, IsAnswerTo, AsksForReply, model_goal, outcome_of, names_before}
+use Rattle.session.specs.PlainFormula.{formula_text, comparison_of}
 use Rattle.session.specs.Report.{answer_text}
 use Rattle.session.specs.Serve.{AnswersExactly, AsksFor, IsLostOr, Says}
+use Rattle.session.specs.declared.plain_formula.PlainFormula.{PlainFormula}
+use Rattle.session.specs.declared.plain_formula.PlainFormula.TheVariants.{Next, Until}
 use Rattle.session.specs.declared.report.StateAnswer.{StateAnswer}
 use Rattle.session.specs.declared.reading.Reply.{Reply}
 use Rattle.session.specs.declared.reading.Stop.{Stop}
 use Rattle.session.specs.declared.status.Part.TheVariants.{TraFile, LabFile, Formula}
 use Rattle.session.specs.declared.status.Status.{Status}
 use Rattle.session.specs.declared.status.Status.TheVariants as status
-use Rattle.session.proofs.Outcomes.{one_outcome}
+use Rattle.session.proofs.Outcomes.{one_outcome, same_answers, answered_or_not}
 use Rattle.session.proofs.Rounding.{next_answer_exact}
 
 -- what is known of files that are told
@@ -45,23 +50,34 @@ module _ (names : FileNames) (files : Option (List Pair)) (before now : Option (
   name_is : first_name model.names ≡ first_name is.takes.lab.names
   name_is = ap first_name is.built.names
 
+  -- the formula is answered over the files as over the model
+  answer_is : (f : PlainFormula) → formula_answer (model_chain model) (model_goal model) f ≡ formula_answer (tra_chain is.takes.tra) (lab_goal is.takes.lab) f
+  answer_is f =
+      ap (λ c. formula_answer c (model_goal model) f) chain_is
+      ∙ ap (λ m. formula_answer (tra_chain is.takes.tra) (has_label m 0) f) is.built.marks
+
+  other_input : IsOtherInput (first_name model.names) (model_chain model) (model_goal model) before now
+      → IsOtherInput (first_name is.takes.lab.names) (tra_chain is.takes.tra) (lab_goal is.takes.lab) before now
+  other_input (inl h) = inl h
+  other_input (inr (inl h)) = inr (inl (subst (λ n. TakesOtherFormula n before now) name_is h))
+  other_input (inr (inr h)) =
+      inr (inr (record {
+        formula = h.formula;
+        takes = subst (λ n. TakesFormula n before now h.formula) name_is h.takes;
+        unbuilt = sym (answer_is h.formula) ∙ h.unbuilt;
+      }))
+
   from_formula : (outcome : Outcome) → IsFormulaOutcome model before now outcome → IsOutcomeOf (Some names) files before now outcome
   from_formula Usage h = absurd h
   from_formula (NotBuilt TraFile) h = absurd h
   from_formula (NotBuilt LabFile) h = absurd h
-  from_formula (NotBuilt Formula) h = record {
+  from_formula (NotBuilt Formula) h = record { model = is.takes; other = other_input h }
+  from_formula (Answered text states) h = record {
     model = is.takes;
-    other = subst (λ n. TakesTooMuch before now ⊎ TakesOtherFormula n before now) name_is h;
-  }
-  from_formula (Answered formula states) h = record {
-    model = is.takes;
-    threshold = h.threshold;
-    takes_formula = subst (λ n. TakesFormula n before now h.threshold) name_is h.takes;
-    is_formula = h.is_formula ∙ ap (λ n. formula_text n h.threshold) name_is;
-    are_states =
-        h.are_states
-        ∙ ap (λ c. next_answers c (has_label model.marks 0) (decimal_fraction h.threshold.c h.threshold.x)) chain_is
-        ∙ ap (λ m. next_answers (tra_chain is.takes.tra) (has_label m 0) (decimal_fraction h.threshold.c h.threshold.x)) is.built.marks;
+    formula = h.formula;
+    takes_formula = subst (λ n. TakesFormula n before now h.formula) name_is h.takes;
+    is_text = h.is_text ∙ ap (λ n. formula_text n h.formula) name_is;
+    are_states = sym (answer_is h.formula) ∙ h.are_states;
   }
 
   -- after the formula both names were asked for
@@ -91,33 +107,63 @@ module _ (names : FileNames) (files : Option (List Pair)) (before now : Option (
       told_names files (new ≡ old ++ names.tra ∷ names.lab ∷ []) (AsksForReply command r old new)
       (λ p. subst (λ o. AsksForReply o r old new) (sym e) (asks_of_formula r old new h p)) asked
 
+-- ---- what a formula gives over the model
+pub from_answer : (model : ModelLists) (before now : Option (List ℕ)) (formula : PlainFormula) (r : Result Reply AllocError)
+    → TakesFormula (first_name model.names) before now formula → IfOk r (λ reply. IsAnswerTo model (first_name model.names) formula (outcome_of reply))
+    → IfOk r (λ reply. IsFormulaOutcome model before now (outcome_of reply))
+from_answer model before now formula (Err e) takes h = tt
+from_answer model before now formula (Ok reply) takes h = answered (outcome_of reply) h
+  where
+    answered : (o : Outcome) → IsAnswerTo model (first_name model.names) formula o → IsFormulaOutcome model before now o
+    answered Usage h = absurd h
+    answered (NotBuilt TraFile) h = absurd h
+    answered (NotBuilt LabFile) h = absurd h
+    answered (NotBuilt Formula) h = inr (inr (record { formula = formula; takes = takes; unbuilt = h }))
+    answered (Answered text states) h = record { formula = formula; takes = takes; is_text = h.0; are_states = h.1 }
+
 -- ---- an answer is exact
-exact_at : (chain : Chain) (goal : ℕ → Bool) (q : Fraction) (s : ℕ) (states : List StateAnswer) → states ≡ next_answers chain goal q → s < chain.states
-    → IsSomeAnd (slice_get states s) (IsExact (next_probability chain goal s) q)
-exact_at chain goal q s states e l =
+exact_at : (chain : Chain) (goal : ℕ → Bool) (comparison : Comparison) (q : Fraction) (s : ℕ) (states : List StateAnswer) → states ≡ next_answers chain goal comparison q → s < chain.states
+    → IsSomeAnd (slice_get states s) (IsExact comparison (next_probability chain goal s) q)
+exact_at chain goal comparison q s states e l =
     let p = next_probability chain goal s in
-    let answer = next_answer p q in
-    let long : s < length states = omega (arith, ap length e, length-map-range_with_len (λ t. next_answer (next_probability chain goal t) q) 0 chain.states) in
+    let answer = next_answer comparison p q in
+    let long : s < length states = omega (arith, ap length e, length-map-range_with_len (λ t. next_answer comparison (next_probability chain goal t) q) 0 chain.states) in
     let found : slice_get states s ≡ Some answer =
     slice_get-get_or states s answer long
-    ∙ ap Some (ap (λ l. get_or l s answer) e ∙ get_or-map-range_with_len (λ t. next_answer (next_probability chain goal t) q) 0 chain.states s s answer l (omega arith)) in
-    subst (λ o. IsSomeAnd o (IsExact p q)) (sym found) (next_answer_exact p q (omega arith))
+    ∙ ap Some (ap (λ l. get_or l s answer) e ∙ get_or-map-range_with_len (λ t. next_answer comparison (next_probability chain goal t) q) 0 chain.states s s answer l (omega arith)) in
+    subst (λ o. IsSomeAnd o (IsExact comparison p q)) (sym found) (next_answer_exact comparison p q (omega arith))
+
+-- the states of an answered formula are as many as the chain's, and each is exact
+record AreExact (chain : Chain) (goal : ℕ → Bool) (formula : PlainFormula) (states : List StateAnswer) : Type 0 where
+  each_state : length states ≡ chain.states
+  exact : (s : ℕ) → s < chain.states → IsSomeAnd (slice_get states s) (IsExactAnswer chain goal formula s)
+
+answers_exact : (chain : Chain) (goal : ℕ → Bool) (formula : PlainFormula) (states : List StateAnswer) → formula_answer chain goal formula ≡ Answers states → AreExact chain goal formula states
+answers_exact chain goal (Next op threshold) states e =
+    let is : states ≡ next_answers chain goal (comparison_of op) (decimal_fraction threshold.c threshold.x) = same_answers states _ (sym e) in
+    record {
+      each_state = ap length is ∙ length-map-range_with_len _ 0 chain.states;
+      exact = λ s l. exact_at chain goal (comparison_of op) (decimal_fraction threshold.c threshold.x) s states is l;
+    }
+answers_exact chain goal (Until op threshold time) states e = absurd (answered_or_not states (sym e))
 
 pub answered_exactly : (command : Option FileNames) (files : Option (List Pair)) (left_before left_now before now : Option (List ℕ)) (outcome : Outcome)
     → outcome_status outcome ≡ status.Done → IsOutcomeOf command files left_before left_now outcome → Appends before now (outcome_text outcome)
     → IsSomeAnd command (λ names. AnswersExactly names files left_before left_now before now)
 answered_exactly command files left_before left_now before now Usage done h printed = cc
 answered_exactly command files left_before left_now before now (NotBuilt part) done h printed = cc
-answered_exactly None files left_before left_now before now (Answered formula states) done h printed = absurd h
-answered_exactly (Some names) files left_before left_now before now (Answered formula states) done h printed = record {
-  model = h.model;
-  threshold = h.threshold;
-  takes_formula = h.takes_formula;
-  states = states;
-  printed = subst (λ f. Appends before now (answer_text f states)) h.is_formula printed;
-  each_state = ap length h.are_states ∙ length-map-range_with_len _ 0 h.model.tra.n;
-  exact = λ s l. exact_at (tra_chain h.model.tra) (has_label h.model.lab.marks 0) (decimal_fraction h.threshold.c h.threshold.x) s states h.are_states l;
-}
+answered_exactly None files left_before left_now before now (Answered text states) done h printed = absurd h
+answered_exactly (Some names) files left_before left_now before now (Answered text states) done h printed =
+    let are = answers_exact (tra_chain h.model.tra) (lab_goal h.model.lab) h.formula states h.are_states in
+    record {
+      model = h.model;
+      formula = h.formula;
+      takes_formula = h.takes_formula;
+      states = states;
+      printed = subst (λ f. Appends before now (answer_text f states)) h.is_text printed;
+      each_state = are.each_state;
+      exact = are.exact;
+    }
 
 -- ---- status and text are a function of what is told
 lost_or : (s : Status) (P : Type 0) → P → IsLostOr s P

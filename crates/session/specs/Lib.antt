@@ -1,5 +1,6 @@
 pub mod Command
 pub mod ExitCode
+pub mod FormulaAnswer
 pub mod NextAnswer
 pub mod Outcome
 pub mod PlainFormula

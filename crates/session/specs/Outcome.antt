@@ -1,19 +1,18 @@
 -- What is answered to the words, the files and the formulas.
-use Rattle.std.specs.Prelude.{◌≡◌, ℕ, ◌+◌, ◌≤◌, ◌⊎◌, List, [], ◌∷◌, ◌++◌, length, codes, Option, IsNone, IsSomeAnd, slice_index_or}
+use Rattle.std.specs.Prelude.{◌≡◌, ℕ, Bool, ◌+◌, ◌≤◌, ◌⊎◌, List, [], ◌∷◌, ◌++◌, length, codes, Option, IsNone, IsSomeAnd, slice_index_or}
 use Rattle.std.specs.Io.KnownBytes.{Consumes, Keeps, IsAtEnd}
 use Rattle.outside.specs.Shelf.{Pair, IsFile, IsTooBig, file_limit}
 use Rattle.ctmc_semantics.specs.Chain.{Chain}
-use Rattle.ctmc_semantics.specs.Fraction.{decimal_fraction}
-use Rattle.decimal_text.specs.DecimalNumber.{DecimalNumber}
 use Rattle.model_core.specs.Files.{TraLists, LabLists}
 use Rattle.model_core.specs.Model.{has_label}
 use Rattle.model_core.specs.Transitions.{chain_of}
 use Rattle.session.specs.Command.{FileNames, command_of}
-use Rattle.session.specs.NextAnswer.{next_answers}
+use Rattle.session.specs.FormulaAnswer.{Answers, Unbuilt, formula_answer}
 use Rattle.session.specs.PlainFormula.{IsPlainFormula, formula_text}
 use Rattle.session.specs.PlainLab.{IsPlainLab}
 use Rattle.session.specs.PlainTra.{IsPlainTra}
 use Rattle.session.specs.Report.{answer_text}
+use Rattle.session.specs.declared.plain_formula.PlainFormula.{PlainFormula}
 use Rattle.session.specs.declared.status.Part.{Part}
 use Rattle.session.specs.declared.status.Part.TheVariants.{TraFile, LabFile, Formula}
 use Rattle.session.specs.declared.status.Status.{Status}
@@ -69,12 +68,12 @@ abbrev pub first_name : List (List ℕ) → List ℕ
 first_name names = slice_index_or names 0 []
 
 -- the formulas were read to their end, and are this one over the declared name
-pub record TakesFormula (name : List ℕ) (before now : Option (List ℕ)) (threshold : DecimalNumber) : Type 0 where
+pub record TakesFormula (name : List ℕ) (before now : Option (List ℕ)) (formula : PlainFormula) : Type 0 where
   pub bytes : List ℕ
   pub taken : Consumes before now bytes
   pub within : length bytes ≤ formulas_limit
   pub end : IsAtEnd now
-  pub plain : IsPlainFormula name bytes threshold
+  pub plain : IsPlainFormula name bytes formula
 
 -- the formulas were read to their end, and are no such formula
 pub record TakesOtherFormula (name : List ℕ) (before now : Option (List ℕ)) : Type 0 where
@@ -82,7 +81,13 @@ pub record TakesOtherFormula (name : List ℕ) (before now : Option (List ℕ)) 
   pub taken : Consumes before now bytes
   pub within : length bytes ≤ formulas_limit
   pub end : IsAtEnd now
-  pub other : (threshold : DecimalNumber) → ¬ IsPlainFormula name bytes threshold
+  pub other : (formula : PlainFormula) → ¬ IsPlainFormula name bytes formula
+
+-- the formulas were read to their end, and are a formula that isn't built
+pub record TakesUnbuilt (name : List ℕ) (chain : Chain) (goal : ℕ → Bool) (before now : Option (List ℕ)) : Type 0 where
+  pub formula : PlainFormula
+  pub takes : TakesFormula name before now formula
+  pub unbuilt : formula_answer chain goal formula ≡ Unbuilt
 
 -- one byte more than the limit was read of the formulas
 pub record TakesTooMuch (before now : Option (List ℕ)) : Type 0 where
@@ -94,13 +99,22 @@ pub record TakesTooMuch (before now : Option (List ℕ)) : Type 0 where
 abbrev pub tra_chain : TraLists → Chain
 tra_chain tra = chain_of tra.n tra.rates
 
+-- the states that have the declared label
+abbrev pub lab_goal : LabLists → ℕ → Bool
+lab_goal lab = has_label lab.marks 0
+
 -- all was read, and these are the formula's text and the answers at the states
-pub record IsAnswered (names : FileNames) (files : Option (List Pair)) (before now : Option (List ℕ)) (formula : List ℕ) (states : List StateAnswer) : Type 0 where
+pub record IsAnswered (names : FileNames) (files : Option (List Pair)) (before now : Option (List ℕ)) (text : List ℕ) (states : List StateAnswer) : Type 0 where
   pub model : TakesModel names files
-  pub threshold : DecimalNumber
-  pub takes_formula : TakesFormula (first_name model.lab.names) before now threshold
-  pub is_formula : formula ≡ formula_text (first_name model.lab.names) threshold
-  pub are_states : states ≡ next_answers (tra_chain model.tra) (has_label model.lab.marks 0) (decimal_fraction threshold.c threshold.x)
+  pub formula : PlainFormula
+  pub takes_formula : TakesFormula (first_name model.lab.names) before now formula
+  pub is_text : text ≡ formula_text (first_name model.lab.names) formula
+  pub are_states : formula_answer (tra_chain model.tra) (lab_goal model.lab) formula ≡ Answers states
+
+-- too much was read of the formulas, or they are no formula of the plain form, or one that isn't built
+abbrev pub IsOtherInput : List ℕ → Chain → (ℕ → Bool) → Option (List ℕ) → Option (List ℕ) → Type 0
+IsOtherInput name chain goal before now =
+    TakesTooMuch before now ⊎ (TakesOtherFormula name before now ⊎ TakesUnbuilt name chain goal before now)
 
 -- the first of the two files that isn't of the plain form, or has too many bytes
 abbrev pub IsFileNotBuilt : FileNames → Option (List Pair) → Part → Type 0
@@ -109,10 +123,10 @@ IsFileNotBuilt names files LabFile =
     (tra : TraLists) × TakesTra names.tra files tra × (IsTooBig names.lab files ⊎ TakesOtherLab tra.n names.lab files)
 IsFileNotBuilt names files Formula = ⊥
 
--- both files are of the plain form, and the formulas aren't, or have too many bytes
+-- both files are of the plain form, and the formulas aren't, or aren't built, or have too many bytes
 pub record IsFormulaNotBuilt (names : FileNames) (files : Option (List Pair)) (before now : Option (List ℕ)) : Type 0 where
   pub model : TakesModel names files
-  pub other : TakesTooMuch before now ⊎ TakesOtherFormula (first_name model.lab.names) before now
+  pub other : IsOtherInput (first_name model.lab.names) (tra_chain model.tra) (lab_goal model.lab) before now
 
 -- the first part, in the order of the files and the formulas, that isn't built; of the formulas nothing is read before
 abbrev pub IsNotBuilt : FileNames → Option (List Pair) → Option (List ℕ) → Option (List ℕ) → Part → Type 0

@@ -1,17 +1,16 @@
 -- What is known after the words, the files and the formulas are read.
-use Rattle.std.specs.Prelude.{◌≡◌, ℕ, ◌^◌, ◌<◌, ◌≤◌, ◌⊎◌, List, [], ◌∷◌, ◌++◌, length, take, Option, Some, None, All, Vec, Result, Ok, Err}
+use Rattle.std.specs.Prelude.{◌≡◌, ℕ, Bool, ◌^◌, ◌<◌, ◌≤◌, ◌⊎◌, List, [], ◌∷◌, ◌++◌, length, take, Option, Some, None, All, Vec, Result, Ok, Err}
 use Rattle.std.specs.declared.alloc.Global.{Global}
 use Rattle.outside.specs.Shelf.{Pair, IsFile, IsTooBig, file_limit}
-use Rattle.ctmc_semantics.specs.Fraction.{decimal_fraction}
-use Rattle.decimal_text.specs.DecimalNumber.{DecimalNumber}
 use Rattle.model_core.specs.Files.{TraLists, LabLists}
 use Rattle.model_core.specs.Model.{ModelLists, IsBuiltOf, has_label, model_chain}
 use Rattle.session.specs.Command.{FileNames, names_of}
-use Rattle.session.specs.Outcome.{Outcome, Usage, NotBuilt, Answered, TakesTra, TakesLab, TakesModel, TakesOtherTra, TakesOtherLab, TakesFormula, TakesOtherFormula, TakesTooMuch, IsFileNotBuilt, first_name}
+use Rattle.session.specs.Outcome.{Outcome, Usage, NotBuilt, Answered, TakesTra, TakesLab, TakesModel, TakesOtherTra, TakesOtherLab, TakesFormula, TakesOtherFormula, TakesTooMuch, IsOtherInput, IsFileNotBuilt, first_name}
 use Rattle.session.specs.PlainFormula.{formula_text}
-use Rattle.session.specs.NextAnswer.{next_answers}
+use Rattle.session.specs.FormulaAnswer.{Answers, Unbuilt, formula_answer}
 use Rattle.session.specs.Report.{IsPrintable}
 use Rattle.session.specs.Serve.{AsksFor}
+use Rattle.session.specs.declared.plain_formula.PlainFormula.{PlainFormula}
 use Rattle.session.specs.declared.reading.Reply.{Reply}
 use Rattle.session.specs.declared.reading.Reply.TheVariants.{Usage as UsageReply, NotBuilt as NotBuiltReply, Answer as AnswerReply}
 use Rattle.session.specs.declared.reading.ModelReading.{ModelReading}
@@ -58,25 +57,37 @@ abbrev pub IsModelReading : FileNames → Option (List Pair) → ModelReading �
 IsModelReading names files (Built model) = IsModelOf names files model
 IsModelReading names files (FileNotBuilt part) = IsFileNotBuilt names files part
 
--- the formula was read, and these are its text and the answers at the states
-pub record IsFormulaAnswer (model : ModelLists) (before now : Option (List ℕ)) (formula : List ℕ) (states : List StateAnswer) : Type 0 where
-  pub threshold : DecimalNumber
-  pub takes : TakesFormula (first_name model.names) before now threshold
-  pub is_formula : formula ≡ formula_text (first_name model.names) threshold
-  pub are_states : states ≡ next_answers (model_chain model) (has_label model.marks 0) (decimal_fraction threshold.c threshold.x)
+-- the states of a model that have its first label
+abbrev pub model_goal : ModelLists → ℕ → Bool
+model_goal model = has_label model.marks 0
 
--- the text and the threshold of a plain formula, or none
-abbrev pub IsFormulaReading : List ℕ → Option (List ℕ) → Option (List ℕ) → Option (Vec ℕ Global × DecimalNumber) → Type 0
+-- the formula was read, and these are its text and the answers at the states
+pub record IsFormulaAnswer (model : ModelLists) (before now : Option (List ℕ)) (text : List ℕ) (states : List StateAnswer) : Type 0 where
+  pub formula : PlainFormula
+  pub takes : TakesFormula (first_name model.names) before now formula
+  pub is_text : text ≡ formula_text (first_name model.names) formula
+  pub are_states : formula_answer (model_chain model) (model_goal model) formula ≡ Answers states
+
+-- the plain formula, or none
+abbrev pub IsFormulaReading : List ℕ → Option (List ℕ) → Option (List ℕ) → Option PlainFormula → Type 0
 IsFormulaReading name before now None = TakesTooMuch before now ⊎ TakesOtherFormula name before now
-IsFormulaReading name before now (Some formula) =
-    TakesFormula name before now formula.1 × (formula.0.items ≡ formula_text name formula.1)
+IsFormulaReading name before now (Some formula) = TakesFormula name before now formula
+
+-- what the formula gives over a model whose label has the name: an answer, or that the formula isn't built
+abbrev pub IsAnswerTo : ModelLists → List ℕ → PlainFormula → Outcome → Type 0
+IsAnswerTo model name formula Usage = ⊥
+IsAnswerTo model name formula (NotBuilt TraFile) = ⊥
+IsAnswerTo model name formula (NotBuilt LabFile) = ⊥
+IsAnswerTo model name formula (NotBuilt Formula) = formula_answer (model_chain model) (model_goal model) formula ≡ Unbuilt
+IsAnswerTo model name formula (Answered text states) =
+    (text ≡ formula_text name formula) × (formula_answer (model_chain model) (model_goal model) formula ≡ Answers states)
 
 -- what the formulas give over a model: an answer, or that the formula isn't built
 abbrev pub IsFormulaOutcome : ModelLists → Option (List ℕ) → Option (List ℕ) → Outcome → Type 0
 IsFormulaOutcome model before now Usage = ⊥
 IsFormulaOutcome model before now (NotBuilt TraFile) = ⊥
 IsFormulaOutcome model before now (NotBuilt LabFile) = ⊥
-IsFormulaOutcome model before now (NotBuilt Formula) = TakesTooMuch before now ⊎ TakesOtherFormula (first_name model.names) before now
+IsFormulaOutcome model before now (NotBuilt Formula) = IsOtherInput (first_name model.names) (model_chain model) (model_goal model) before now
 IsFormulaOutcome model before now (Answered formula states) = IsFormulaAnswer model before now formula states
 
 -- the name is asked for, or memory ran out

@@ -3,15 +3,12 @@ use Rattle.std.specs.Prelude.{◌≡◌, ℕ, ◌<◌, List, ◌++◌, length, t
 use Rattle.std.specs.Io.KnownBytes.{Appends}
 use Rattle.outside.specs.Shelf.{Pair, file_named}
 use Rattle.outside.specs.Whole.{WritesFront}
-use Rattle.ctmc_semantics.specs.Fraction.{decimal_fraction}
-use Rattle.ctmc_semantics.specs.Next.{next_probability}
-use Rattle.decimal_text.specs.DecimalNumber.{DecimalNumber}
-use Rattle.model_core.specs.Model.{has_label}
 use Rattle.session.specs.Command.{FileNames, names_of}
-use Rattle.session.specs.NextAnswer.{IsExact}
-use Rattle.session.specs.Outcome.{Outcome, IsOutcome, outcome_text, outcome_status, TakesModel, TakesFormula, first_name, tra_chain}
+use Rattle.session.specs.FormulaAnswer.{IsExactAnswer}
+use Rattle.session.specs.Outcome.{Outcome, IsOutcome, outcome_text, outcome_status, TakesModel, TakesFormula, first_name, tra_chain, lab_goal}
 use Rattle.session.specs.PlainFormula.{formula_text}
 use Rattle.session.specs.Report.{answer_text}
+use Rattle.session.specs.declared.plain_formula.PlainFormula.{PlainFormula}
 use Rattle.session.specs.declared.report.StateAnswer.{StateAnswer}
 use Rattle.session.specs.declared.status.Fault.TheVariants.{Read, Write}
 use Rattle.session.specs.declared.status.Part.TheVariants.{TraFile, LabFile, Formula}
@@ -30,17 +27,17 @@ pub record Settles (words : List (List ℕ)) (files : Option (List Pair)) (left_
   pub is_status : status ≡ outcome_status outcome
   pub says : Says before now flushed (outcome_text outcome)
 
--- the answer for each state is exact: its bracket contains the probability that the next state has the label,
--- it is satisfied exactly where this meets the threshold, and refuted exactly where it doesn't
+-- the answer for each state is exact: its bracket contains the probability of the formula's path, it is satisfied
+-- exactly where this meets the threshold, and refuted exactly where it doesn't
 pub record AnswersExactly (names : FileNames) (files : Option (List Pair)) (left_before left_now before now : Option (List ℕ)) : Type 0 where
   pub model : TakesModel names files
-  pub threshold : DecimalNumber
-  pub takes_formula : TakesFormula (first_name model.lab.names) left_before left_now threshold
+  pub formula : PlainFormula
+  pub takes_formula : TakesFormula (first_name model.lab.names) left_before left_now formula
   pub states : List StateAnswer
-  pub printed : Appends before now (answer_text (formula_text (first_name model.lab.names) threshold) states)
+  pub printed : Appends before now (answer_text (formula_text (first_name model.lab.names) formula) states)
   pub each_state : length states ≡ model.tra.n
-  pub exact : (s : ℕ) → s < model.tra.n → IsSomeAnd (slice_get states s)
-      (IsExact (next_probability (tra_chain model.tra) (has_label model.lab.marks 0) s) (decimal_fraction threshold.c threshold.x))
+  pub exact : (s : ℕ) → s < model.tra.n
+      → IsSomeAnd (slice_get states s) (IsExactAnswer (tra_chain model.tra) (lab_goal model.lab) formula s)
 
 -- a front of the outcome's text is written
 pub record IsCutShort (words : List (List ℕ)) (files : Option (List Pair)) (left_before left_now before now : Option (List ℕ)) : Type 0 where

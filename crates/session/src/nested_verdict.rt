@@ -1,12 +1,14 @@
 // The answers of formulas: a next operator over one label, compared exactly.
-ghost use Rattle.std.specs.Prelude.{◌≡◌, ◌+◌, ◌<◌, ◌≤◌, ◌*◌, ◌^◌, length, IfOk, All, nat_le};
+ghost use Rattle.std.specs.Prelude.{◌≡◌, ◌+◌, ◌<◌, ◌≤◌, ◌*◌, ◌^◌, length, IfOk, All};
 ghost use Rattle.ctmc_semantics.specs.Fraction.{fraction, decimal_fraction};
 ghost use Rattle.ctmc_semantics.specs.Next.{next_probability, rate_into};
 ghost use Rattle.model_core.specs.Model.{has_label};
 ghost use Rattle.model_core.specs.Transitions.{chain_of};
-ghost use Rattle.session.specs.NextAnswer.{next_answer, next_answers, rounded_bracket, verdict_of};
+ghost use Rattle.session.specs.NextAnswer.{next_answer, next_answers, meets_threshold, rounded_bracket};
+ghost use Rattle.session.specs.PlainFormula.{comparison_of};
 ghost use Rattle.session.specs.Report.{IsPrintable};
 
+use crate::plain_formula::Op;
 use crate::report::{Printed, StateAnswer, Verdict};
 use decimal_text::Decimal;
 use model_core::Model;
@@ -15,16 +17,17 @@ use std::alloc::{AllocError, Global};
 // A printed number counts units of 10^-12.
 const UNITS: u128 = 1_000_000_000_000;
 
-/// Answers `P{>=threshold}[X label]` at each state.
+/// Answers `P{op threshold}[X label]` at each state.
 pub(crate) fn check_next(
     alloc: Global,
     model: &Model,
     label: u32,
+    op: Op,
     threshold: Decimal,
 ) -> Result<Vec<StateAnswer>, AllocError>
     requires { label < length model.now.names }
-    ensures answers { IfOk result (λ states. states.items
-        ≡ next_answers (chain_of model.now.n model.now.rates) (has_label model.now.marks label) (decimal_fraction threshold.c threshold.x)) }
+    ensures answers { IfOk result (λ states. states.items ≡ next_answers (chain_of model.now.n model.now.rates) (has_label model.now.marks label)
+        (comparison_of op) (decimal_fraction threshold.c threshold.x)) }
     ensures printable { IfOk result (λ states. All IsPrintable states.items) }
     ensures few { IfOk result (λ states. length states.items ≤ 65536) }
 {
@@ -32,7 +35,8 @@ pub(crate) fn check_next(
     let mut answers = Vec::with_capacity(alloc, n as usize)?;
     for s in 0..n {
         let into = rate_into(model, s, label);
-        answers.push(next_answer(into, model.exit(s).max(1), threshold))?;
+        let exit = model.exit(s).max(1);
+        answers.push(next_answer(into, exit, op, threshold))?;
     }
     Ok(answers)
 }
@@ -53,14 +57,14 @@ fn rate_into(model: &Model, s: u32, label: u32) -> u64
 }
 
 // The answer to the probability `num / den`.
-fn next_answer(num: u64, den: u64, threshold: Decimal) -> StateAnswer
+fn next_answer(num: u64, den: u64, op: Op, threshold: Decimal) -> StateAnswer
     requires probability { num ≤ den }
     requires divisor { 0 < den }
     requires fits { den < 2 ^ 63 }
-    ensures answer { result ≡ next_answer (fraction num den) (decimal_fraction threshold.c threshold.x) }
+    ensures answer { result ≡ next_answer (comparison_of op) (fraction num den) (decimal_fraction threshold.c threshold.x) }
     ensures printable { IsPrintable result }
 {
-    let verdict = if is_at_least(num, den, threshold) {
+    let verdict = if meets_threshold(num, den, op, threshold) {
         Verdict::Satisfied
     } else {
         Verdict::Refuted
@@ -69,14 +73,21 @@ fn next_answer(num: u64, den: u64, threshold: Decimal) -> StateAnswer
     StateAnswer { verdict, bracket }
 }
 
-// Whether `num / den` is at least the threshold.
-fn is_at_least(num: u64, den: u64, threshold: Decimal) -> bool
+// Whether `num / den` meets the threshold.
+fn meets_threshold(num: u64, den: u64, op: Op, threshold: Decimal) -> bool
     requires probability { num ≤ den }
     requires fits { den < 2 ^ 63 }
-    ensures { result ≡ nat_le (threshold.c * den) (num * 10 ^ threshold.x) }
+    ensures { result ≡ meets_threshold (comparison_of op) (fraction num den) (decimal_fraction threshold.c threshold.x) }
 {
     let scale = 10u64.pow(threshold.x);
-    u128::from(threshold.c) * u128::from(den) <= u128::from(num) * u128::from(scale)
+    let probability = u128::from(num) * u128::from(scale);
+    let bound = u128::from(threshold.c) * u128::from(den);
+    match op {
+        Op::Less => probability < bound,
+        Op::AtMost => probability <= bound,
+        Op::More => probability > bound,
+        Op::AtLeast => probability >= bound,
+    }
 }
 
 // `num / den` in units of 10^-12, rounded down and up.

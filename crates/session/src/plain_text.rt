@@ -1,5 +1,5 @@
 // The front of a text that is spelled in exactly one way: fixed words, and numbers without leading zeros.
-ghost use Rattle.std.specs.Prelude.{◌≡◌, ◌≢◌, ℕ, ◌<◌, ◌≤◌, ◌^◌, List, ◌++◌, MatchOption, IsTrue, ◌↔◌};
+ghost use Rattle.std.specs.Prelude.{◌≡◌, ◌≢◌, ℕ, ◌<◌, ◌≤◌, ◌^◌, List, ◌∷◌, ◌++◌, All, MatchOption, IsTrue, ◌↔◌};
 ghost use Rattle.session.specs.PlainText.{number_then, state_then, IsPlainlySpelled, IsTaken};
 
 /// The byte that ends a line.
@@ -65,9 +65,17 @@ pub(crate) fn take_state(text: &[u8], n: u32, ending: u8) -> Option<(u32, &[u8])
     Some(((number - 1) as u32, rest))
 }
 
+/// What comes before the first byte `ending` of the text, and what comes after it.
+pub(crate) fn take_until(text: &[u8], ending: u8) -> Option<(&[u8], &[u8])>
+    ensures { MatchOption result (All (λ byte. byte ≢ ending) text.now) (λ t. (text.now ≡ t.0.now ++ ending ∷ t.1.now) × All (λ byte. byte ≢ ending) t.0.now) }
+{
+    let end = text.iter().position(|byte| *byte == ending)?;
+    Some((&text[..end], &text[end + 1..]))
+}
+
 #[cfg(test)]
 mod tests {
-    use super::{take_number, take_state};
+    use super::{take_number, take_state, take_until};
 
     #[test]
     fn numbers_are_taken_with_their_end(rt: HostRuntime) {
@@ -77,5 +85,12 @@ mod tests {
         );
         assert_eq!(rt; take_number(b"120 7\n", 119, b' '), None);
         assert_eq!(rt; take_state(b"1 a\n", 2, b' '), Some((0, b"a\n".as_slice())));
+    }
+
+    #[test]
+    fn what_stands_before_a_byte_is_taken(rt: HostRuntime) {
+        let taken = take_until(b"0.5}[X}", b'}');
+        assert_eq!(rt; taken, Some((b"0.5".as_slice(), b"[X}".as_slice())));
+        assert_eq!(rt; take_until(b"0.5", b'}'), None);
     }
 }

@@ -3,16 +3,15 @@ ghost use Rattle.std.specs.Prelude.{◌≡◌, ℕ, ◌⊎◌, List, [], ◌∷�
 ghost use Rattle.outside.specs.Causes.{Rose};
 ghost use Rattle.session.specs.Command.{file_names, command_of};
 ghost use Rattle.session.specs.Outcome.{IsOutcome, TakesModel, outcome_status};
-ghost use Rattle.session.specs.Reading.{outcome_of, IsWritable, IsFileReading, IsTraReading, IsLabReading, IsModelReading, IsFormulaReading, AsksForFile, AsksForModel, AsksForReply, IsFormulaOutcome};
+ghost use Rattle.session.specs.Reading.{outcome_of, IsWritable, IsFileReading, IsTraReading, IsLabReading, IsModelReading, IsFormulaReading, AsksForFile, AsksForModel, AsksForReply, IsFormulaOutcome, IsAnswerTo};
 
 use crate::command::read_words;
 use crate::nested_verdict::check_next;
-use crate::plain_formula::{read_plain_formula, without_line_end};
+use crate::plain_formula::{PlainFormula, read_plain_formula};
 use crate::plain_lab::read_plain_lab;
 use crate::plain_tra::read_plain_tra;
 use crate::report::StateAnswer;
 use crate::{Part, Status};
-use decimal_text::Decimal;
 use model_core::{Lab, Model, Tra};
 use outside::{Files, Source, TakeFault, read_whole};
 use std::alloc::{AllocError, Global};
@@ -109,11 +108,29 @@ fn answer_formula<S: Source>(alloc: Global, model: &Model, formulas: &mut S) -> 
 {
     let name = model.labels()[0].bytes();
     match read_formula(alloc, formulas, name)? {
+        Some(formula) => Ok(make_reply(alloc, model, name, formula)?),
         None => Ok(Reply::NotBuilt(Part::Formula)),
-        Some((formula, threshold)) => {
-            let states = check_next(alloc, model, 0, threshold)?;
+    }
+}
+
+// Answers the formula over the one label of the model, whose name is given.
+fn make_reply(
+    alloc: Global,
+    model: &Model,
+    name: &[u8],
+    formula: PlainFormula,
+) -> Result<Reply, AllocError>
+    requires { length model.now.names ≡ 1 }
+    ensures reply { IfOk result (λ reply. IsAnswerTo model.now name.now formula (outcome_of reply)) }
+    ensures writable { IfOk result IsWritable }
+{
+    match formula {
+        PlainFormula::Next(op, threshold) => {
+            let states = check_next(alloc, model, 0, op, threshold)?;
+            let formula = formula.text(alloc, name)?;
             Ok(Reply::Answer(Answer { formula, states }))
         }
+        PlainFormula::Until(_, _, _) => Ok(Reply::NotBuilt(Part::Formula)),
     }
 }
 
@@ -184,28 +201,20 @@ fn take_file<F: Files>(alloc: Global, files: &mut F, name: &str) -> Result<Optio
     }
 }
 
-// The text and the threshold of the formula, where the formulas are one plain formula over the name.
+// The formula, where the formulas are one plain formula over the name.
 fn read_formula<S: Source>(
     alloc: Global,
     formulas: &mut S,
     name: &[u8],
-) -> Result<Option<(Vec<u8>, Decimal)>, Stop>
+) -> Result<Option<PlainFormula>, Stop>
     ensures formula { IfOk result (IsFormulaReading name.now (S.left formulas.old) (S.left formulas.new)) }
     ensures read { IsErrOf result Stop.Read → Rose (S.fault_count formulas.old) (S.fault_count formulas.new) }
     ensures later { S.fault_count formulas.old ≤ S.fault_count formulas.new }
 {
-    let mut text = match read_whole(alloc, formulas, FORMULAS_LIMIT) {
-        Ok(text) => text,
-        Err(TakeFault::TooBig) => return Ok(None),
-        Err(TakeFault::Failed) => return Err(Stop::Read),
-        Err(TakeFault::Memory) => return Err(Stop::Memory),
-    };
-    match read_plain_formula(&text, name) {
-        None => Ok(None),
-        Some(threshold) => {
-            let line = without_line_end(&text).len();
-            text.truncate(line);
-            Ok(Some((text, threshold)))
-        }
+    match read_whole(alloc, formulas, FORMULAS_LIMIT) {
+        Ok(text) => Ok(read_plain_formula(&text, name)),
+        Err(TakeFault::TooBig) => Ok(None),
+        Err(TakeFault::Failed) => Err(Stop::Read),
+        Err(TakeFault::Memory) => Err(Stop::Memory),
     }
 }

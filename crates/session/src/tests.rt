@@ -127,19 +127,19 @@ fn labels_that_are_not_plain_are_not_built(rt: HostRuntime) -> Result<(), Fail> 
 fn a_formula_that_is_not_plain_is_not_built(rt: HostRuntime) -> Result<(), Fail> {
     let texts: [&[u8]; 14] = [
         b"",
-        b"P{>0.3}[X a]\n",
-        b"P{>=.3}[X a]\n",
-        b"P{>=00.3}[X a]\n",
-        b"P{>=0.30}[X a]\n",
-        b"P{>=0.}[X a]\n",
+        b"P{=0.3}[X a]\n",
+        b"P{>= 0.3}[X a]\n",
+        b"P{>=-0.3}[X a]\n",
+        b"P{>=.}[X a]\n",
         b"P{>=1.5}[X a]\n",
-        b"P{>=2}[X a]\n",
-        b"P{>=0.1234567890123456789}[X a]\n",
+        b"P{>=1e-19}[X a]\n",
         b"P{>=0.3}[X  a]\n",
         b"P{>=0.3}[X b]\n",
+        b"P{>=0.3}[X tt]\n",
         b"P{>=0.3}[X a\n",
         b"P{>=0.3}[X a] \n",
         b"P{>=0.3}[X a]\n\n",
+        b"P{>=0.3}[tt U[0,1] a]\n",
     ];
     for text in texts {
         let (status, said) = answered(&rt, (TRA, LAB), text, 0)?;
@@ -149,36 +149,72 @@ fn a_formula_that_is_not_plain_is_not_built(rt: HostRuntime) -> Result<(), Fail>
     Ok(())
 }
 
-// The smallest and the greatest threshold, and one of 18 digits; a state that can reach nothing, and one that stays.
+// State 1 has the probability 3/10: at a threshold that equals it, one unit of 10^-18 below it and one above.
 #[test]
-fn thresholds_are_compared_exactly(rt: HostRuntime) -> Result<(), Fail> {
-    let tra = b"STATES 2\nTRANSITIONS 2\n1 1 1\n1 2 2\n";
-    let cases: [(&[u8], &[u8]); 4] = [
+fn a_probability_is_compared_exactly(rt: HostRuntime) -> Result<(), Fail> {
+    let cases: [(&str, &str, &str); 12] = [
+        ("<0.3", "<0.3", "refuted"),
+        ("<=3e-1", "<=0.3", "satisfied"),
+        (">.30", ">0.3", "refuted"),
+        (">=00.3", ">=0.3", "satisfied"),
+        ("<0.299999999999999999", "<0.299999999999999999", "refuted"),
         (
-            b"0",
-            b"formula P{>=0}[X a]\n1 satisfied 0.666666666666 0.666666666667\n2 satisfied 0.000000000000 0.000000000000\n",
+            "<=0.299999999999999999",
+            "<=0.299999999999999999",
+            "refuted",
         ),
         (
-            b"1",
-            b"formula P{>=1}[X a]\n1 refuted 0.666666666666 0.666666666667\n2 refuted 0.000000000000 0.000000000000\n",
+            ">0.299999999999999999",
+            ">0.299999999999999999",
+            "satisfied",
         ),
         (
-            b"0.666666666666666666",
-            b"formula P{>=0.666666666666666666}[X a]\n1 satisfied 0.666666666666 0.666666666667\n2 refuted 0.000000000000 0.000000000000\n",
+            ">=0.299999999999999999",
+            ">=0.299999999999999999",
+            "satisfied",
         ),
         (
-            b"0.666666666666666667",
-            b"formula P{>=0.666666666666666667}[X a]\n1 refuted 0.666666666666 0.666666666667\n2 refuted 0.000000000000 0.000000000000\n",
+            "<0.300000000000000001",
+            "<0.300000000000000001",
+            "satisfied",
+        ),
+        (
+            "<=0.300000000000000001",
+            "<=0.300000000000000001",
+            "satisfied",
+        ),
+        (">0.300000000000000001", ">0.300000000000000001", "refuted"),
+        (
+            ">=0.300000000000000001",
+            ">=0.300000000000000001",
+            "refuted",
         ),
     ];
-    for (threshold, want) in cases {
-        let mut formula = b"P{>=".to_vec(rt.alloc())?;
-        formula.extend_from_slice(threshold)?;
-        formula.extend_from_slice(b"}[X a]\n")?;
-        let (status, text) = answered(&rt, (tra, LAB), &formula, 0)?;
+    for (written, canonical, verdict) in cases {
+        let formula = format!(in rt.alloc(); "P{{{written}}}[X a]\n")?;
+        let want = format!(in rt.alloc();
+            "formula P{{{canonical}}}[X a]\n1 {verdict} 0.300000000000 0.300000000000\n"
+        )?;
+        let (status, text) = answered(&rt, (TRA, LAB), formula.as_bytes(), 0)?;
         assert_eq!(rt; status, Status::Done);
-        assert_eq!(rt; text.as_slice(), want);
+        assert!(rt;
+            text.as_slice().starts_with(want.as_bytes()),
+            "at {written}"
+        );
     }
+    Ok(())
+}
+
+// A loop counts in the exit rate, and a state that is never left has the probability 0.
+#[test]
+fn a_bracket_is_rounded_outward(rt: HostRuntime) -> Result<(), Fail> {
+    let tra = b"STATES 2\nTRANSITIONS 2\n1 1 1\n1 2 2\n";
+    let (status, text) = answered(&rt, (tra, LAB), b"P{<=0}[X a]", 0)?;
+    assert_eq!(rt; status, Status::Done);
+    assert_eq!(rt;
+        text.as_slice(),
+        b"formula P{<=0}[X a]\n1 refuted 0.666666666666 0.666666666667\n2 satisfied 0.000000000000 0.000000000000\n".as_slice()
+    );
     Ok(())
 }
 

@@ -1,13 +1,9 @@
-use Rattle.std.proofs.Common.{◌≡◌, ℕ, suc, List, length, take, drop, set, append_assoc, ◌+◌, ◌-◌, ◌/◌, ◌%◌, ◌^◌, ◌<◌, [], ◌∷◌, ◌++◌, ap, sym, rules, arith, ◌∙◌}
-use Rattle.std.proofs.lemmas.List.{take-set-le, take-append-drop, drop-set}
+use Rattle.std.proofs.Common.{◌≡◌, ℕ, List, take, drop, ◌+◌, ◌-◌, ◌/◌, ◌%◌, ◌^◌, ◌<◌, [], ◌∷◌, ◌++◌, ap, sym, rules, arith, ◌∙◌}
+use Rattle.std.proofs.lemmas.List.{take-set-le, take-append-drop}
 use Rattle.std.proofs.lemmas.Fmt.{decimal_digit}
 use Rattle.decimal_text.specs.Digits.{fixed_digits}
+use Rattle.decimal_text.proofs.FixedDigits.{one_digit_back}
 use Rattle.decimal_text.proofs.text.write12.Goals as goal
-
--- the last digit of rest, written before those that stand from q on
-one_digit_back : (k j p r q rest : ℕ) (text : List ℕ) → j ≡ suc k → r ≡ p → q ≡ p + 1 → p < length text → fixed_digits k (rest / 10) ++ drop r (set text p (48 + rest % 10)) ≡ fixed_digits j rest ++ drop q text
-one_digit_back k j p r q rest text ej er eq l =
-    rw (ej, er, eq, drop-set text p (48 + rest % 10) l) (sym (append_assoc (fixed_digits k (rest / 10)) ((48 + rest % 10) ∷ []) (drop (p + 1) text)))
 
 -- once 12 digits are written, they follow what stands before them
 all_written : (text before digits : List ℕ) (written rest : ℕ) → written ≡ 12 → take 2 text ≡ before → fixed_digits (12 - written) rest ++ drop (14 - written) text ≡ digits → text ≡ before ++ digits

@@ -4,6 +4,7 @@ use Rattle.ctmc_semantics.proofs.NextLemmas.{rate_into-le}
 use Rattle.ctmc_semantics.specs.Fraction.{decimal_fraction}
 use Rattle.model_core.specs.Model.{has_label}
 use Rattle.model_core.specs.Transitions.{chain_of}
+use Rattle.session.specs.PlainFormula.{comparison_of}
 use Rattle.session.specs.Report.{IsPrintable}
 use Rattle.session.specs.declared.report.StateAnswer.{StateAnswer}
 use Rattle.session.proofs.Rounding.{answers_more}
@@ -20,8 +21,8 @@ loop-s-preserved c =
     record {
       answers =
           c.in_ok-push.ensures.items
-          ∙ answers_more (chain_of model.n model.rates) (has_label model.marks c.args.label) (decimal_fraction c.args.threshold.c c.args.threshold.x)
-          c.loop-s.s _ _ _ _ c.loop-s.invariant.answers c.rate_into-into.ensures.value (omega (arith, c.max.ensures, c.exit.ensures.value)) c.next_answer.ensures.answer;
+          ∙ answers_more (chain_of model.n model.rates) (has_label model.marks c.args.label) (comparison_of c.args.op) (decimal_fraction c.args.threshold.c c.args.threshold.x)
+          c.loop-s.s _ _ _ _ c.loop-s.invariant.answers c.rate_into-into.ensures.value (omega (arith, c.max-exit.ensures, c.exit.ensures.value)) c.next_answer.ensures.answer;
       printable = rw c.in_ok-push.ensures.items (All-push IsPrintable _ _ c.loop-s.invariant.printable c.next_answer.ensures.printable);
       counted = omega (arith, ap length c.in_ok-push.ensures.items, length-append {A = StateAnswer}, c.loop-s.invariant.counted);
     }

@@ -4,12 +4,13 @@ use Rattle.ctmc_semantics.specs.Fraction.{decimal_fraction}
 use Rattle.model_core.specs.Model.{has_label}
 use Rattle.model_core.specs.Transitions.{chain_of}
 use Rattle.session.specs.NextAnswer.{first_answers}
+use Rattle.session.specs.PlainFormula.{comparison_of}
 use Rattle.session.specs.Report.{IsPrintable}
 use Rattle.session.proofs.nested_verdict.check_next.Given as goal
 
 abbrev pub invariant-loop-s : goal.invariant-loop-s
 invariant-loop-s l = record {
-  answers : l.answers.items ≡ first_answers (chain_of l.model.n l.model.rates) (has_label l.model.marks l.label) (decimal_fraction l.threshold.c l.threshold.x) l.s;
+  answers : l.answers.items ≡ first_answers (chain_of l.model.n l.model.rates) (has_label l.model.marks l.label) (comparison_of l.op) (decimal_fraction l.threshold.c l.threshold.x) l.s;
   printable : All IsPrintable l.answers.items;
   counted : length l.answers.items ≡ l.s;
 }
