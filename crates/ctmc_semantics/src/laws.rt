@@ -1,4 +1,14 @@
 // The laws of the definitions, each the contract of a function.
+
+pub mod brackets;
+pub mod contains;
+pub mod jumps;
+pub mod mix;
+pub mod poisson;
+pub mod tables;
+pub mod verdicts;
+pub mod weights;
+
 ghost use Rattle.ctmc_semantics.specs.Laws.{NextIsAtMostOne, FractionsAreOrdered, AtLeastIsNotLess, AtMostIsNotMore, ThresholdIsDecided, ThresholdReadsTheNumber};
 
 /// The probability of a next operator never passes 1.

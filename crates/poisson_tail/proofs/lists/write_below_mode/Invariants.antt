@@ -1,0 +1,9 @@
+use Rattle.std.proofs.Common.{◌≡◌, ℕ, ◌≤◌, slice_index}
+use Rattle.ctmc_semantics.specs.Weights.{low_weight, high_weight}
+use Rattle.poisson_tail.proofs.lists.write_below_mode.Given as goal
+
+abbrev pub invariant-loop-k : goal.invariant-loop-k
+invariant-loop-k l = record {
+  low : (j : ℕ) → l.k ≤ j → j ≤ l.mode → slice_index l.low j ≡ low_weight l.load j;
+  high : (j : ℕ) → l.k ≤ j → j ≤ l.mode → slice_index l.high j ≡ high_weight l.load j;
+}

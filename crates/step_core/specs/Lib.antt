@@ -1,0 +1,10 @@
+pub mod FrameLists
+pub mod FrameRows
+pub mod PlanLaws
+pub mod PlanLists
+pub mod PlanLoad
+pub mod PlanTables
+pub mod SoundFrame
+pub mod SoundPlan
+pub mod TableLists
+pub mod WeightLists

@@ -1,0 +1,16 @@
+// The laws of sound plans, each the contract of a function.
+ghost use Rattle.step_core.specs.PlanLaws.{FrameRowsAreWhole, LowTableRounds, HighTableRounds, BoundedHighTableRounds, UnboundedHighTableIsAbove};
+
+/// The numbers of each row of a sound frame add up to its divisor, which is positive.
+pub fn frame_rows_are_whole()
+    ensures { FrameRowsAreWhole }
+{}
+
+/// The tables of a sound plan are near the probabilities for which its rows stand, the lower one
+/// from below and the upper one from above.
+pub fn plan_tables_round()
+    ensures low { LowTableRounds }
+    ensures high { HighTableRounds }
+    ensures bounded { BoundedHighTableRounds }
+    ensures unbounded { UnboundedHighTableIsAbove }
+{}

@@ -1,0 +1,29 @@
+//! Plans of an until over a jump chain: their types, when they are sound, and their rounded tables.
+#![tactic(auto)]
+
+mod bracket;
+mod frame;
+mod laws;
+mod mix;
+mod one_thread;
+mod plan;
+mod plan_error;
+mod row;
+mod row_value;
+mod sets;
+mod tables;
+mod watch;
+mod weights;
+
+pub use bracket::Bracket;
+pub use frame::Frame;
+pub use laws::{frame_rows_are_whole, plan_tables_round};
+pub use mix::Mix;
+pub use one_thread::plain_tables;
+pub use plan::Plan;
+pub use plan_error::PlanError;
+pub use row::Row;
+pub use sets::Sets;
+pub use tables::Tables;
+pub use watch::Watch;
+pub use weights::Weights;
