@@ -6,13 +6,14 @@ use Rattle.outside.specs.Shelf.{Pair, IsFile, IsTooBig, file_limit}
 use Rattle.ctmc_semantics.specs.Chain.{Chain}
 use Rattle.model_core.specs.Files.{TraLists, LabLists}
 use Rattle.session.specs.Command.{FileNames}
-use Rattle.session.specs.Outcome.{Outcome, Usage, NotBuilt, Answered, TakesTra, TakesLab, TakesModel, TakesOtherTra, TakesOtherLab, TakesFormula, IsOtherInput, IsFileNotBuilt, IsNotBuilt, IsAnswered, IsOutcomeOf, first_name, tra_chain, lab_goal}
-use Rattle.session.specs.FormulaAnswer.{Answers, Unbuilt, formula_answer}
+use Rattle.session.specs.Outcome.{Outcome, Usage, NotBuilt, Refused, Answered, TakesTra, TakesLab, TakesModel, TakesOtherTra, TakesOtherLab, TakesFormula, IsOtherInput, IsFileNotBuilt, IsNotBuilt, IsAnswered, IsRefused, IsOutcomeOf, first_name, tra_chain, lab_goal}
+use Rattle.session.specs.FormulaAnswer.{FormulaAnswer, Answers, Refuses, Unbuilt, formula_answer}
 use Rattle.session.specs.PlainFormula.{formula_text, IsPlainFormula}
 use Rattle.session.specs.PlainLab.{IsPlainLab}
 use Rattle.session.specs.PlainTra.{IsPlainTra}
 use Rattle.session.specs.declared.plain_formula.PlainFormula.{PlainFormula}
 use Rattle.session.specs.declared.report.StateAnswer.{StateAnswer}
+use Rattle.session.specs.declared.uniformise.Refusal.{Refusal}
 use Rattle.session.specs.declared.status.Part.{Part}
 use Rattle.session.specs.declared.status.Part.TheVariants.{TraFile, LabFile, Formula}
 use Rattle.session.proofs.PlainFormulas.{plain_formula_unique}
@@ -24,6 +25,15 @@ some_same a b e = cc
 
 pub answered_or_not : (xs : List StateAnswer) → Answers xs ≡ Unbuilt → ⊥
 answered_or_not xs e = cc
+
+pub answered_or_refused : (xs : List StateAnswer) (r : Refusal) → Answers xs ≡ Refuses r → ⊥
+answered_or_refused xs r e = cc
+
+refused_or_not : (r : Refusal) → Refuses r ≡ Unbuilt → ⊥
+refused_or_not r e = cc
+
+same_refusal : (r t : Refusal) → Refuses r ≡ Refuses t → r ≡ t
+same_refusal r t e = cc
 
 pub same_answers : (xs ys : List StateAnswer) → Answers xs ≡ Answers ys → xs ≡ ys
 same_answers xs ys e = cc
@@ -100,41 +110,61 @@ module _ (left : List ℕ) where
       let same : q.bytes ≡ p.bytes = sym (all_taken v q.bytes q.taken q.end) ∙ all_taken u p.bytes p.taken p.end in
       plain_formula_unique name p.bytes f g p.plain (subst (λ t. IsPlainFormula name t g) same q.plain)
 
-  no_answer : (name : List ℕ) (chain : Chain) (goal : ℕ → Bool) (u v : Option (List ℕ)) (f : PlainFormula) (xs : List StateAnswer)
-      → TakesFormula name (Some left) u f → formula_answer chain goal f ≡ Answers xs → IsOtherInput name chain goal (Some left) v → ⊥
-  no_answer name chain goal u v f xs p built (inl q) =
+  -- a formula that was read gives no answer but its own
+  one_given : (name : List ℕ) (chain : Chain) (rate_decimals : ℕ) (goal : ℕ → Bool) (u v : Option (List ℕ)) (f g : PlainFormula) (a b : FormulaAnswer)
+      → TakesFormula name (Some left) u f → TakesFormula name (Some left) v g
+      → formula_answer chain rate_decimals goal f ≡ a → formula_answer chain rate_decimals goal g ≡ b → a ≡ b
+  one_given name chain rate_decimals goal u v f g a b p q is_a is_b =
+      sym is_a ∙ ap (formula_answer chain rate_decimals goal) (one_formula name u v f g p q) ∙ is_b
+
+  no_answer : (name : List ℕ) (chain : Chain) (rate_decimals : ℕ) (goal : ℕ → Bool) (u v : Option (List ℕ)) (f : PlainFormula) (a : FormulaAnswer)
+      → TakesFormula name (Some left) u f → formula_answer chain rate_decimals goal f ≡ a → (a ≡ Unbuilt → ⊥) → IsOtherInput name chain rate_decimals goal (Some left) v → ⊥
+  no_answer name chain rate_decimals goal u v f a p is_a built (inl q) =
       omega (arith, p.within, q.long, some_taken v q.bytes q.taken, ap length (all_taken u p.bytes p.taken p.end))
-  no_answer name chain goal u v f xs p built (inr (inl q)) =
+  no_answer name chain rate_decimals goal u v f a p is_a built (inr (inl q)) =
       let same : p.bytes ≡ q.bytes = sym (all_taken u p.bytes p.taken p.end) ∙ all_taken v q.bytes q.taken q.end in
       q.other f (subst (λ t. IsPlainFormula name t f) same p.plain)
-  no_answer name chain goal u v f xs p built (inr (inr q)) =
-      answered_or_not xs (sym built ∙ ap (formula_answer chain goal) (one_formula name u v f q.formula p q.takes) ∙ q.unbuilt)
+  no_answer name chain rate_decimals goal u v f a p is_a built (inr (inr q)) =
+      built (one_given name chain rate_decimals goal u v f q.formula a Unbuilt p q.takes is_a q.unbuilt)
 
 -- ---- one outcome
 module _ (pairs : List Pair) (left : List ℕ) (u v : Option (List ℕ)) (names : FileNames) where
-  one_answer : (f g : List ℕ) (xs ys : List StateAnswer) → IsAnswered names (Some pairs) (Some left) u f xs → IsAnswered names (Some pairs) (Some left) v g ys → (f ≡ g) × (xs ≡ ys)
-  one_answer f g xs ys p q =
+  -- what the formula that was read gives over the model of the files
+  record Gives (now : Option (List ℕ)) (formula : PlainFormula) (a : FormulaAnswer) : Type 0 where
+    model : TakesModel names (Some pairs)
+    takes : TakesFormula (first_name model.lab.names) (Some left) now formula
+    is : formula_answer (tra_chain model.tra) model.tra.scale (lab_goal model.lab) formula ≡ a
+
+  answered : (now : Option (List ℕ)) (f : List ℕ) (xs : List StateAnswer) (p : IsAnswered names (Some pairs) (Some left) now f xs) → Gives now p.formula (Answers xs)
+  answered now f xs p = record { model = p.model; takes = p.takes_formula; is = p.are_states }
+
+  refused : (now : Option (List ℕ)) (r : Refusal) (p : IsRefused names (Some pairs) (Some left) now r) → Gives now p.formula (Refuses r)
+  refused now r p = record { model = p.model; takes = p.takes_formula; is = p.is_refusal }
+
+  one_gift : (f g : PlainFormula) (a b : FormulaAnswer) → Gives u f a → Gives v g b → a ≡ b
+  one_gift f g a b p q =
+      let model = one_model pairs names q.model p.model in
+      one_given left (first_name p.model.lab.names) (tra_chain p.model.tra) p.model.tra.scale (lab_goal p.model.lab) u v f g a b p.takes
+      (subst (λ l. TakesFormula (first_name l.names) (Some left) v g) model.lab q.takes) p.is
+      (subst (λ t. formula_answer (tra_chain t) t.scale (lab_goal p.model.lab) g ≡ b) model.tra
+      (subst (λ l. formula_answer (tra_chain q.model.tra) q.model.tra.scale (lab_goal l) g ≡ b) model.lab q.is))
+
+  one_text : (f g : List ℕ) (xs ys : List StateAnswer) → IsAnswered names (Some pairs) (Some left) u f xs → IsAnswered names (Some pairs) (Some left) v g ys → f ≡ g
+  one_text f g xs ys p q =
       let model = one_model pairs names p.model q.model in
       let name : first_name q.model.lab.names ≡ first_name p.model.lab.names = ap (λ l. first_name l.names) (sym model.lab) in
       let same : p.formula ≡ q.formula =
-      one_formula left (first_name p.model.lab.names) u v p.formula q.formula p.takes_formula (subst (λ n. TakesFormula n (Some left) v q.formula) name q.takes_formula) in (
-        (p.is_text ∙ ap (λ n. formula_text n p.formula) (sym name) ∙ ap (formula_text (first_name q.model.lab.names)) same ∙ sym q.is_text),
-        same_answers xs ys
-            (sym p.are_states
-            ∙ ap (λ t. formula_answer (tra_chain t) (lab_goal p.model.lab) p.formula) model.tra
-            ∙ ap (λ l. formula_answer (tra_chain q.model.tra) (lab_goal l) p.formula) model.lab
-            ∙ ap (λ d. formula_answer (tra_chain q.model.tra) (lab_goal q.model.lab) d) same
-            ∙ q.are_states),
-      )
+      one_formula left (first_name p.model.lab.names) u v p.formula q.formula p.takes_formula (subst (λ n. TakesFormula n (Some left) v q.formula) name q.takes_formula) in
+      p.is_text ∙ ap (λ n. formula_text n p.formula) (sym name) ∙ ap (formula_text (first_name q.model.lab.names)) same ∙ sym q.is_text
 
-  answer_not_part : (f : List ℕ) (xs : List StateAnswer) (part : Part) → IsAnswered names (Some pairs) (Some left) u f xs → IsNotBuilt names (Some pairs) (Some left) v part → ⊥
-  answer_not_part f xs TraFile p q = no_model pairs names p.model TraFile q.0
-  answer_not_part f xs LabFile p q = no_model pairs names p.model LabFile q.0
-  answer_not_part f xs Formula p q =
+  gift_not_part : (f : PlainFormula) (a : FormulaAnswer) (part : Part) → (a ≡ Unbuilt → ⊥) → Gives u f a → IsNotBuilt names (Some pairs) (Some left) v part → ⊥
+  gift_not_part f a TraFile built p q = no_model pairs names p.model TraFile q.0
+  gift_not_part f a LabFile built p q = no_model pairs names p.model LabFile q.0
+  gift_not_part f a Formula built p q =
       let model = one_model pairs names q.model p.model in
-      no_answer left (first_name p.model.lab.names) (tra_chain p.model.tra) (lab_goal p.model.lab) u v p.formula xs p.takes_formula p.are_states
-      (subst (λ t. IsOtherInput (first_name p.model.lab.names) (tra_chain t) (lab_goal p.model.lab) (Some left) v) model.tra
-      (subst (λ l. IsOtherInput (first_name l.names) (tra_chain q.model.tra) (lab_goal l) (Some left) v) model.lab q.other))
+      no_answer left (first_name p.model.lab.names) (tra_chain p.model.tra) p.model.tra.scale (lab_goal p.model.lab) u v f a p.takes p.is built
+      (subst (λ t. IsOtherInput (first_name p.model.lab.names) (tra_chain t) t.scale (lab_goal p.model.lab) (Some left) v) model.tra
+      (subst (λ l. IsOtherInput (first_name l.names) (tra_chain q.model.tra) q.model.tra.scale (lab_goal l) (Some left) v) model.lab q.other))
 
   one_part : (a b : Part) → IsNotBuilt names (Some pairs) (Some left) u a → IsNotBuilt names (Some pairs) (Some left) v b → a ≡ b
   one_part TraFile TraFile p q = refl
@@ -147,25 +177,44 @@ module _ (pairs : List Pair) (left : List ℕ) (u v : Option (List ℕ)) (names 
   one_part Formula LabFile p q = absurd (no_model pairs names p.model LabFile q.0)
   one_part Formula Formula p q = refl
 
+  answer_not_part : (f : List ℕ) (xs : List StateAnswer) (part : Part) → IsAnswered names (Some pairs) (Some left) u f xs → IsNotBuilt names (Some pairs) (Some left) v part → ⊥
+  answer_not_part f xs part p q = gift_not_part p.formula (Answers xs) part (answered_or_not xs) (answered u f xs p) q
+
+  refusal_not_part : (r : Refusal) (part : Part) → IsRefused names (Some pairs) (Some left) u r → IsNotBuilt names (Some pairs) (Some left) v part → ⊥
+  refusal_not_part r part p q = gift_not_part p.formula (Refuses r) part (refused_or_not r) (refused u r p) q
+
+  answer_not_refusal : (f : List ℕ) (xs : List StateAnswer) (r : Refusal) → IsAnswered names (Some pairs) (Some left) u f xs → IsRefused names (Some pairs) (Some left) v r → ⊥
+  answer_not_refusal f xs r p q = answered_or_refused xs r (one_gift p.formula q.formula (Answers xs) (Refuses r) (answered u f xs p) (refused v r q))
+
+  one_answer : (f g : List ℕ) (xs ys : List StateAnswer) → IsAnswered names (Some pairs) (Some left) u f xs → IsAnswered names (Some pairs) (Some left) v g ys → xs ≡ ys
+  one_answer f g xs ys p q = same_answers xs ys (one_gift p.formula q.formula (Answers xs) (Answers ys) (answered u f xs p) (answered v g ys q))
+
+  one_refusal : (r t : Refusal) → IsRefused names (Some pairs) (Some left) u r → IsRefused names (Some pairs) (Some left) v t → r ≡ t
+  one_refusal r t p q = same_refusal r t (one_gift p.formula q.formula (Refuses r) (Refuses t) (refused u r p) (refused v t q))
+
+-- without a command the usage is said
+module _ (pairs : List Pair) (left : List ℕ) (u : Option (List ℕ)) where
+  no_command : (a : Outcome) → IsOutcomeOf None (Some pairs) (Some left) u a → a ≡ Usage
+  no_command Usage p = refl
+  no_command (NotBuilt part) p = absurd p
+  no_command (Refused r) p = absurd p
+  no_command (Answered f xs) p = absurd p
+
 -- words, files and formulas have one outcome at most
 pub one_outcome : (pairs : List Pair) (left : List ℕ) (u v : Option (List ℕ)) (command : Option FileNames) (a b : Outcome)
     → IsOutcomeOf command (Some pairs) (Some left) u a → IsOutcomeOf command (Some pairs) (Some left) v b → a ≡ b
-one_outcome pairs left u v command Usage Usage p q = refl
-one_outcome pairs left u v None Usage (NotBuilt part) p q = absurd q
-one_outcome pairs left u v (Some names) Usage (NotBuilt part) p q = absurd (is_some names p.0)
-one_outcome pairs left u v None Usage (Answered f xs) p q = absurd q
-one_outcome pairs left u v (Some names) Usage (Answered f xs) p q = absurd (is_some names p.0)
-one_outcome pairs left u v None (NotBuilt part) Usage p q = absurd p
-one_outcome pairs left u v (Some names) (NotBuilt part) Usage p q = absurd (is_some names q.0)
-one_outcome pairs left u v None (NotBuilt a) (NotBuilt b) p q = absurd p
+one_outcome pairs left u v None a b p q = no_command pairs left u a p ∙ sym (no_command pairs left v b q)
+one_outcome pairs left u v (Some names) Usage b p q = absurd (is_some names p.0)
+one_outcome pairs left u v (Some names) (NotBuilt a) Usage p q = absurd (is_some names q.0)
 one_outcome pairs left u v (Some names) (NotBuilt a) (NotBuilt b) p q = ap NotBuilt (one_part pairs left u v names a b p q)
-one_outcome pairs left u v None (NotBuilt a) (Answered f xs) p q = absurd p
-one_outcome pairs left u v (Some names) (NotBuilt a) (Answered f xs) p q = absurd (answer_not_part pairs left v u names f xs a q p)
-one_outcome pairs left u v None (Answered f xs) Usage p q = absurd p
+one_outcome pairs left u v (Some names) (NotBuilt a) (Refused t) p q = absurd (refusal_not_part pairs left v u names t a q p)
+one_outcome pairs left u v (Some names) (NotBuilt a) (Answered g ys) p q = absurd (answer_not_part pairs left v u names g ys a q p)
+one_outcome pairs left u v (Some names) (Refused r) Usage p q = absurd (is_some names q.0)
+one_outcome pairs left u v (Some names) (Refused r) (NotBuilt b) p q = absurd (refusal_not_part pairs left u v names r b p q)
+one_outcome pairs left u v (Some names) (Refused r) (Refused t) p q = ap Refused (one_refusal pairs left u v names r t p q)
+one_outcome pairs left u v (Some names) (Refused r) (Answered g ys) p q = absurd (answer_not_refusal pairs left v u names g ys r q p)
 one_outcome pairs left u v (Some names) (Answered f xs) Usage p q = absurd (is_some names q.0)
-one_outcome pairs left u v None (Answered f xs) (NotBuilt b) p q = absurd p
 one_outcome pairs left u v (Some names) (Answered f xs) (NotBuilt b) p q = absurd (answer_not_part pairs left u v names f xs b p q)
-one_outcome pairs left u v None (Answered f xs) (Answered g ys) p q = absurd p
+one_outcome pairs left u v (Some names) (Answered f xs) (Refused t) p q = absurd (answer_not_refusal pairs left u v names f xs t p q)
 one_outcome pairs left u v (Some names) (Answered f xs) (Answered g ys) p q =
-    let both = one_answer pairs left u v names f g xs ys p q in
-    ap (λ h. Answered h xs) both.0 ∙ ap (Answered g) both.1
+    ap (λ h. Answered h xs) (one_text pairs left u v names f g xs ys p q) ∙ ap (Answered g) (one_answer pairs left u v names f g xs ys p q)

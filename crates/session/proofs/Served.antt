@@ -16,9 +16,9 @@ use Rattle.model_core.specs.Model.{ModelLists, has_label, model_chain}
 use Rattle.model_core.specs.Transitions.{chain_of}
 use Rattle.std.specs.List.Sorted.{IsPermutation}
 use Rattle.session.specs.Command.{FileNames, names_of}
-use Rattle.session.specs.FormulaAnswer.{Answers, formula_answer, IsExactAnswer}
+use Rattle.session.specs.FormulaAnswer.{Answers, refused_or_unbuilt, formula_answer, IsExactAnswer}
 use Rattle.session.specs.NextAnswer.{IsExact, next_answer, next_answers}
-use Rattle.session.specs.Outcome.{Outcome, Usage, NotBuilt, Answered, TakesFormula, TakesOtherFormula, IsOtherInput, IsOutcomeOf, first_name, tra_chain, lab_goal, outcome_text, outcome_status}
+use Rattle.session.specs.Outcome.{Outcome, Usage, NotBuilt, Refused, Answered, TakesFormula, TakesOtherFormula, IsOtherInput, IsOutcomeOf, first_name, tra_chain, lab_goal, outcome_text, outcome_status}
 use Rattle.session.specs.Reading.{IsModelOf, IsFormulaOutcome, IsAnswerTo, AsksForReply, model_goal, outcome_of, names_before}
 use Rattle.session.specs.PlainFormula.{formula_text, comparison_of}
 use Rattle.session.specs.Report.{answer_text}
@@ -26,12 +26,14 @@ use Rattle.session.specs.Serve.{AnswersExactly, AsksFor, IsLostOr, Says}
 use Rattle.session.specs.declared.plain_formula.PlainFormula.{PlainFormula}
 use Rattle.session.specs.declared.plain_formula.PlainFormula.TheVariants.{Next, Until}
 use Rattle.session.specs.declared.report.StateAnswer.{StateAnswer}
+use Rattle.session.specs.declared.uniformise.Refusal.{Refusal}
+use Rattle.session.specs.UntilPlan.{until_refusal}
 use Rattle.session.specs.declared.reading.Reply.{Reply}
 use Rattle.session.specs.declared.reading.Stop.{Stop}
 use Rattle.session.specs.declared.status.Part.TheVariants.{TraFile, LabFile, Formula}
 use Rattle.session.specs.declared.status.Status.{Status}
 use Rattle.session.specs.declared.status.Status.TheVariants as status
-use Rattle.session.proofs.Outcomes.{one_outcome, same_answers, answered_or_not}
+use Rattle.session.proofs.Outcomes.{one_outcome, same_answers, answered_or_not, answered_or_refused}
 use Rattle.session.proofs.Rounding.{next_answer_exact}
 
 -- what is known of files that are told
@@ -51,13 +53,15 @@ module _ (names : FileNames) (files : Option (List Pair)) (before now : Option (
   name_is = ap first_name is.built.names
 
   -- the formula is answered over the files as over the model
-  answer_is : (f : PlainFormula) → formula_answer (model_chain model) (model_goal model) f ≡ formula_answer (tra_chain is.takes.tra) (lab_goal is.takes.lab) f
+  answer_is : (f : PlainFormula) → formula_answer (model_chain model) model.scale (model_goal model) f
+      ≡ formula_answer (tra_chain is.takes.tra) is.takes.tra.scale (lab_goal is.takes.lab) f
   answer_is f =
-      ap (λ c. formula_answer c (model_goal model) f) chain_is
-      ∙ ap (λ m. formula_answer (tra_chain is.takes.tra) (has_label m 0) f) is.built.marks
+      ap (λ c. formula_answer c model.scale (model_goal model) f) chain_is
+      ∙ ap (λ d. formula_answer (tra_chain is.takes.tra) d (model_goal model) f) is.built.scale
+      ∙ ap (λ m. formula_answer (tra_chain is.takes.tra) is.takes.tra.scale (has_label m 0) f) is.built.marks
 
-  other_input : IsOtherInput (first_name model.names) (model_chain model) (model_goal model) before now
-      → IsOtherInput (first_name is.takes.lab.names) (tra_chain is.takes.tra) (lab_goal is.takes.lab) before now
+  other_input : IsOtherInput (first_name model.names) (model_chain model) model.scale (model_goal model) before now
+      → IsOtherInput (first_name is.takes.lab.names) (tra_chain is.takes.tra) is.takes.tra.scale (lab_goal is.takes.lab) before now
   other_input (inl h) = inl h
   other_input (inr (inl h)) = inr (inl (subst (λ n. TakesOtherFormula n before now) name_is h))
   other_input (inr (inr h)) =
@@ -72,6 +76,12 @@ module _ (names : FileNames) (files : Option (List Pair)) (before now : Option (
   from_formula (NotBuilt TraFile) h = absurd h
   from_formula (NotBuilt LabFile) h = absurd h
   from_formula (NotBuilt Formula) h = record { model = is.takes; other = other_input h }
+  from_formula (Refused refusal) h = record {
+    model = is.takes;
+    formula = h.formula;
+    takes_formula = subst (λ n. TakesFormula n before now h.formula) name_is h.takes;
+    is_refusal = sym (answer_is h.formula) ∙ h.is_refusal;
+  }
   from_formula (Answered text states) h = record {
     model = is.takes;
     formula = h.formula;
@@ -86,6 +96,7 @@ module _ (names : FileNames) (files : Option (List Pair)) (before now : Option (
   both_names (NotBuilt TraFile) h = absurd h
   both_names (NotBuilt LabFile) h = absurd h
   both_names (NotBuilt Formula) h = refl
+  both_names (Refused refusal) h = refl
   both_names (Answered formula states) h = refl
 
   asks_of_formula : (r : Result Reply Stop) (old new : List (List ℕ)) → IfOk r (λ reply. IsFormulaOutcome model before now (outcome_of reply))
@@ -119,6 +130,7 @@ from_answer model before now formula (Ok reply) takes h = answered (outcome_of r
     answered (NotBuilt TraFile) h = absurd h
     answered (NotBuilt LabFile) h = absurd h
     answered (NotBuilt Formula) h = inr (inr (record { formula = formula; takes = takes; unbuilt = h }))
+    answered (Refused refusal) h = record { formula = formula; takes = takes; is_refusal = h }
     answered (Answered text states) h = record { formula = formula; takes = takes; is_text = h.0; are_states = h.1 }
 
 -- ---- an answer is exact
@@ -138,23 +150,30 @@ record AreExact (chain : Chain) (goal : ℕ → Bool) (formula : PlainFormula) (
   each_state : length states ≡ chain.states
   exact : (s : ℕ) → s < chain.states → IsSomeAnd (slice_get states s) (IsExactAnswer chain goal formula s)
 
-answers_exact : (chain : Chain) (goal : ℕ → Bool) (formula : PlainFormula) (states : List StateAnswer) → formula_answer chain goal formula ≡ Answers states → AreExact chain goal formula states
-answers_exact chain goal (Next op threshold) states e =
+-- an until isn't answered
+until_unanswered : (refusal : Option Refusal) (states : List StateAnswer) → refused_or_unbuilt refusal ≡ Answers states → ⊥
+until_unanswered None states e = answered_or_not states (sym e)
+until_unanswered (Some refusal) states e = answered_or_refused states refusal (sym e)
+
+answers_exact : (chain : Chain) (rate_decimals : ℕ) (goal : ℕ → Bool) (formula : PlainFormula) (states : List StateAnswer)
+    → formula_answer chain rate_decimals goal formula ≡ Answers states → AreExact chain goal formula states
+answers_exact chain rate_decimals goal (Next op threshold) states e =
     let is : states ≡ next_answers chain goal (comparison_of op) (decimal_fraction threshold.c threshold.x) = same_answers states _ (sym e) in
     record {
       each_state = ap length is ∙ length-map-range_with_len _ 0 chain.states;
       exact = λ s l. exact_at chain goal (comparison_of op) (decimal_fraction threshold.c threshold.x) s states is l;
     }
-answers_exact chain goal (Until op threshold time) states e = absurd (answered_or_not states (sym e))
+answers_exact chain rate_decimals goal (Until op threshold time) states e = absurd (until_unanswered (until_refusal chain rate_decimals time) states e)
 
 pub answered_exactly : (command : Option FileNames) (files : Option (List Pair)) (left_before left_now before now : Option (List ℕ)) (outcome : Outcome)
     → outcome_status outcome ≡ status.Done → IsOutcomeOf command files left_before left_now outcome → Appends before now (outcome_text outcome)
     → IsSomeAnd command (λ names. AnswersExactly names files left_before left_now before now)
 answered_exactly command files left_before left_now before now Usage done h printed = cc
 answered_exactly command files left_before left_now before now (NotBuilt part) done h printed = cc
+answered_exactly command files left_before left_now before now (Refused refusal) done h printed = cc
 answered_exactly None files left_before left_now before now (Answered text states) done h printed = absurd h
 answered_exactly (Some names) files left_before left_now before now (Answered text states) done h printed =
-    let are = answers_exact (tra_chain h.model.tra) (lab_goal h.model.lab) h.formula states h.are_states in
+    let are = answers_exact (tra_chain h.model.tra) h.model.tra.scale (lab_goal h.model.lab) h.formula states h.are_states in
     record {
       model = h.model;
       formula = h.formula;
@@ -168,6 +187,7 @@ answered_exactly (Some names) files left_before left_now before now (Answered te
 -- ---- status and text are a function of what is told
 lost_or : (s : Status) (P : Type 0) → P → IsLostOr s P
 lost_or status.Done P p = p
+lost_or status.Refused P p = p
 lost_or status.Usage P p = p
 lost_or (status.NotBuilt part) P p = p
 lost_or (status.Outside fault) P p = tt
@@ -201,6 +221,7 @@ front_asked command Usage old new e = record { count = 0; appended = e }
 front_asked command (NotBuilt TraFile) old new e = record { count = 1; appended = e }
 front_asked command (NotBuilt LabFile) old new e = all_asked command old new e
 front_asked command (NotBuilt Formula) old new e = all_asked command old new e
+front_asked command (Refused refusal) old new e = all_asked command old new e
 front_asked command (Answered formula states) old new e = all_asked command old new e
 
 -- where the reply is lost on its way out, a front of the command's names was asked for

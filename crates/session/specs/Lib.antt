@@ -10,3 +10,4 @@ pub mod PlainTra
 pub mod Reading
 pub mod Report
 pub mod Serve
+pub mod UntilPlan

@@ -7,7 +7,7 @@ use Rattle.model_core.specs.Files.{TraLists, LabLists}
 use Rattle.model_core.specs.Model.{has_label}
 use Rattle.model_core.specs.Transitions.{chain_of}
 use Rattle.session.specs.Command.{FileNames, command_of}
-use Rattle.session.specs.FormulaAnswer.{Answers, Unbuilt, formula_answer}
+use Rattle.session.specs.FormulaAnswer.{Answers, Refuses, Unbuilt, formula_answer}
 use Rattle.session.specs.PlainFormula.{IsPlainFormula, formula_text}
 use Rattle.session.specs.PlainLab.{IsPlainLab}
 use Rattle.session.specs.PlainTra.{IsPlainTra}
@@ -17,15 +17,18 @@ use Rattle.session.specs.declared.status.Part.{Part}
 use Rattle.session.specs.declared.status.Part.TheVariants.{TraFile, LabFile, Formula}
 use Rattle.session.specs.declared.status.Status.{Status}
 use Rattle.session.specs.declared.report.StateAnswer.{StateAnswer}
+use Rattle.session.specs.declared.uniformise.Refusal.{Refusal}
+use Rattle.session.specs.declared.uniformise.Refusal.TheVariants.{TooLong, TooLarge}
 
 -- 1 MiB
 abbrev pub formulas_limit : ℕ
 formulas_limit = 1048576
 
--- what is said: the usage, that a part isn't built, or the answer to a formula
+-- what is said: the usage, that a part isn't built, why the formula is refused, or the answer to it
 pub data Outcome : Type 0 where
   Usage : Outcome
   NotBuilt : Part → Outcome
+  Refused : Refusal → Outcome
   Answered : List ℕ → List StateAnswer → Outcome
 
 -- the file was taken whole, and stands for this chain
@@ -84,10 +87,10 @@ pub record TakesOtherFormula (name : List ℕ) (before now : Option (List ℕ)) 
   pub other : (formula : PlainFormula) → ¬ IsPlainFormula name bytes formula
 
 -- the formulas were read to their end, and are a formula that isn't built
-pub record TakesUnbuilt (name : List ℕ) (chain : Chain) (goal : ℕ → Bool) (before now : Option (List ℕ)) : Type 0 where
+pub record TakesUnbuilt (name : List ℕ) (chain : Chain) (rate_decimals : ℕ) (goal : ℕ → Bool) (before now : Option (List ℕ)) : Type 0 where
   pub formula : PlainFormula
   pub takes : TakesFormula name before now formula
-  pub unbuilt : formula_answer chain goal formula ≡ Unbuilt
+  pub unbuilt : formula_answer chain rate_decimals goal formula ≡ Unbuilt
 
 -- one byte more than the limit was read of the formulas
 pub record TakesTooMuch (before now : Option (List ℕ)) : Type 0 where
@@ -109,12 +112,19 @@ pub record IsAnswered (names : FileNames) (files : Option (List Pair)) (before n
   pub formula : PlainFormula
   pub takes_formula : TakesFormula (first_name model.lab.names) before now formula
   pub is_text : text ≡ formula_text (first_name model.lab.names) formula
-  pub are_states : formula_answer (tra_chain model.tra) (lab_goal model.lab) formula ≡ Answers states
+  pub are_states : formula_answer (tra_chain model.tra) model.tra.scale (lab_goal model.lab) formula ≡ Answers states
+
+-- all was read, and this is why the formula is refused
+pub record IsRefused (names : FileNames) (files : Option (List Pair)) (before now : Option (List ℕ)) (refusal : Refusal) : Type 0 where
+  pub model : TakesModel names files
+  pub formula : PlainFormula
+  pub takes_formula : TakesFormula (first_name model.lab.names) before now formula
+  pub is_refusal : formula_answer (tra_chain model.tra) model.tra.scale (lab_goal model.lab) formula ≡ Refuses refusal
 
 -- too much was read of the formulas, or they are no formula of the plain form, or one that isn't built
-abbrev pub IsOtherInput : List ℕ → Chain → (ℕ → Bool) → Option (List ℕ) → Option (List ℕ) → Type 0
-IsOtherInput name chain goal before now =
-    TakesTooMuch before now ⊎ (TakesOtherFormula name before now ⊎ TakesUnbuilt name chain goal before now)
+abbrev pub IsOtherInput : List ℕ → Chain → ℕ → (ℕ → Bool) → Option (List ℕ) → Option (List ℕ) → Type 0
+IsOtherInput name chain rate_decimals goal before now =
+    TakesTooMuch before now ⊎ (TakesOtherFormula name before now ⊎ TakesUnbuilt name chain rate_decimals goal before now)
 
 -- the first of the two files that isn't of the plain form, or has too many bytes
 abbrev pub IsFileNotBuilt : FileNames → Option (List Pair) → Part → Type 0
@@ -126,7 +136,7 @@ IsFileNotBuilt names files Formula = ⊥
 -- both files are of the plain form, and the formulas aren't, or aren't built, or have too many bytes
 pub record IsFormulaNotBuilt (names : FileNames) (files : Option (List Pair)) (before now : Option (List ℕ)) : Type 0 where
   pub model : TakesModel names files
-  pub other : IsOtherInput (first_name model.lab.names) (tra_chain model.tra) (lab_goal model.lab) before now
+  pub other : IsOtherInput (first_name model.lab.names) (tra_chain model.tra) model.tra.scale (lab_goal model.lab) before now
 
 -- the first part, in the order of the files and the formulas, that isn't built; of the formulas nothing is read before
 abbrev pub IsNotBuilt : FileNames → Option (List Pair) → Option (List ℕ) → Option (List ℕ) → Part → Type 0
@@ -138,6 +148,7 @@ IsNotBuilt names files before now Formula = IsFormulaNotBuilt names files before
 abbrev pub IsOutcomeOf : Option FileNames → Option (List Pair) → Option (List ℕ) → Option (List ℕ) → Outcome → Type 0
 IsOutcomeOf command files before now Usage = IsNone command × Keeps before now
 IsOutcomeOf command files before now (NotBuilt part) = IsSomeAnd command (λ names. IsNotBuilt names files before now part)
+IsOutcomeOf command files before now (Refused refusal) = IsSomeAnd command (λ names. IsRefused names files before now refusal)
 IsOutcomeOf command files before now (Answered formula states) = IsSomeAnd command (λ names. IsAnswered names files before now formula states)
 
 -- what is answered to the words, the files and the formulas
@@ -152,12 +163,19 @@ not_built_text TraFile = codes "not built tra" ++ 10 ∷ []
 not_built_text LabFile = codes "not built lab" ++ 10 ∷ []
 not_built_text Formula = codes "not built formula" ++ 10 ∷ []
 
+-- the formula is on the first line
+abbrev pub refused_text : Refusal → List ℕ
+refused_text TooLong = codes "refused line 1 TooLong" ++ 10 ∷ []
+refused_text TooLarge = codes "refused line 1 TooLarge" ++ 10 ∷ []
+
 abbrev pub outcome_text : Outcome → List ℕ
 outcome_text Usage = usage_text
 outcome_text (NotBuilt part) = not_built_text part
+outcome_text (Refused refusal) = refused_text refusal
 outcome_text (Answered formula states) = answer_text formula states
 
 abbrev pub outcome_status : Outcome → Status
 outcome_status Usage = Status.Usage
 outcome_status (NotBuilt part) = Status.NotBuilt part
+outcome_status (Refused refusal) = Status.Refused
 outcome_status (Answered formula states) = Status.Done

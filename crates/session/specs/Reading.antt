@@ -5,18 +5,19 @@ use Rattle.outside.specs.Shelf.{Pair, IsFile, IsTooBig, file_limit}
 use Rattle.model_core.specs.Files.{TraLists, LabLists}
 use Rattle.model_core.specs.Model.{ModelLists, IsBuiltOf, has_label, model_chain}
 use Rattle.session.specs.Command.{FileNames, names_of}
-use Rattle.session.specs.Outcome.{Outcome, Usage, NotBuilt, Answered, TakesTra, TakesLab, TakesModel, TakesOtherTra, TakesOtherLab, TakesFormula, TakesOtherFormula, TakesTooMuch, IsOtherInput, IsFileNotBuilt, first_name}
+use Rattle.session.specs.Outcome.{Outcome, Usage, NotBuilt, Refused, Answered, TakesTra, TakesLab, TakesModel, TakesOtherTra, TakesOtherLab, TakesFormula, TakesOtherFormula, TakesTooMuch, IsOtherInput, IsFileNotBuilt, first_name}
 use Rattle.session.specs.PlainFormula.{formula_text}
-use Rattle.session.specs.FormulaAnswer.{Answers, Unbuilt, formula_answer}
+use Rattle.session.specs.FormulaAnswer.{Answers, Refuses, Unbuilt, formula_answer}
 use Rattle.session.specs.Report.{IsPrintable}
 use Rattle.session.specs.Serve.{AsksFor}
 use Rattle.session.specs.declared.plain_formula.PlainFormula.{PlainFormula}
 use Rattle.session.specs.declared.reading.Reply.{Reply}
-use Rattle.session.specs.declared.reading.Reply.TheVariants.{Usage as UsageReply, NotBuilt as NotBuiltReply, Answer as AnswerReply}
+use Rattle.session.specs.declared.reading.Reply.TheVariants.{Usage as UsageReply, NotBuilt as NotBuiltReply, Refused as RefusedReply, Answer as AnswerReply}
 use Rattle.session.specs.declared.reading.ModelReading.{ModelReading}
 use Rattle.session.specs.declared.reading.ModelReading.TheVariants.{Built, NotBuilt as FileNotBuilt}
 use Rattle.session.specs.declared.reading.Stop.{Stop}
 use Rattle.session.specs.declared.report.StateAnswer.{StateAnswer}
+use Rattle.session.specs.declared.uniformise.Refusal.{Refusal}
 use Rattle.session.specs.declared.status.Part.{Part}
 use Rattle.session.specs.declared.status.Part.TheVariants.{TraFile, LabFile, Formula}
 
@@ -24,12 +25,14 @@ use Rattle.session.specs.declared.status.Part.TheVariants.{TraFile, LabFile, For
 abbrev pub outcome_of : Reply → Outcome
 outcome_of UsageReply = Usage
 outcome_of (NotBuiltReply part) = NotBuilt part
+outcome_of (RefusedReply refusal) = Refused refusal
 outcome_of (AnswerReply answer) = Answered answer.formula.items answer.states.items
 
 -- the reply's lines can be written
 abbrev pub IsWritable : Reply → Type 0
 IsWritable UsageReply = Unit {0}
 IsWritable (NotBuiltReply part) = Unit {0}
+IsWritable (RefusedReply refusal) = Unit {0}
 IsWritable (AnswerReply answer) = All IsPrintable answer.states.items × (length answer.states.items < 2 ^ 32)
 
 -- a file's bytes, or none where there are too many
@@ -66,28 +69,36 @@ pub record IsFormulaAnswer (model : ModelLists) (before now : Option (List ℕ))
   pub formula : PlainFormula
   pub takes : TakesFormula (first_name model.names) before now formula
   pub is_text : text ≡ formula_text (first_name model.names) formula
-  pub are_states : formula_answer (model_chain model) (model_goal model) formula ≡ Answers states
+  pub are_states : formula_answer (model_chain model) model.scale (model_goal model) formula ≡ Answers states
+
+-- the formula was read, and this is why it is refused
+pub record IsFormulaRefusal (model : ModelLists) (before now : Option (List ℕ)) (refusal : Refusal) : Type 0 where
+  pub formula : PlainFormula
+  pub takes : TakesFormula (first_name model.names) before now formula
+  pub is_refusal : formula_answer (model_chain model) model.scale (model_goal model) formula ≡ Refuses refusal
 
 -- the plain formula, or none
 abbrev pub IsFormulaReading : List ℕ → Option (List ℕ) → Option (List ℕ) → Option PlainFormula → Type 0
 IsFormulaReading name before now None = TakesTooMuch before now ⊎ TakesOtherFormula name before now
 IsFormulaReading name before now (Some formula) = TakesFormula name before now formula
 
--- what the formula gives over a model whose label has the name: an answer, or that the formula isn't built
+-- what the formula gives over a model whose label has the name: an answer, a refusal, or that the formula isn't built
 abbrev pub IsAnswerTo : ModelLists → List ℕ → PlainFormula → Outcome → Type 0
 IsAnswerTo model name formula Usage = ⊥
 IsAnswerTo model name formula (NotBuilt TraFile) = ⊥
 IsAnswerTo model name formula (NotBuilt LabFile) = ⊥
-IsAnswerTo model name formula (NotBuilt Formula) = formula_answer (model_chain model) (model_goal model) formula ≡ Unbuilt
+IsAnswerTo model name formula (NotBuilt Formula) = formula_answer (model_chain model) model.scale (model_goal model) formula ≡ Unbuilt
+IsAnswerTo model name formula (Refused refusal) = formula_answer (model_chain model) model.scale (model_goal model) formula ≡ Refuses refusal
 IsAnswerTo model name formula (Answered text states) =
-    (text ≡ formula_text name formula) × (formula_answer (model_chain model) (model_goal model) formula ≡ Answers states)
+    (text ≡ formula_text name formula) × (formula_answer (model_chain model) model.scale (model_goal model) formula ≡ Answers states)
 
--- what the formulas give over a model: an answer, or that the formula isn't built
+-- what the formulas give over a model: an answer, a refusal, or that the formula isn't built
 abbrev pub IsFormulaOutcome : ModelLists → Option (List ℕ) → Option (List ℕ) → Outcome → Type 0
 IsFormulaOutcome model before now Usage = ⊥
 IsFormulaOutcome model before now (NotBuilt TraFile) = ⊥
 IsFormulaOutcome model before now (NotBuilt LabFile) = ⊥
-IsFormulaOutcome model before now (NotBuilt Formula) = IsOtherInput (first_name model.names) (model_chain model) (model_goal model) before now
+IsFormulaOutcome model before now (NotBuilt Formula) = IsOtherInput (first_name model.names) (model_chain model) model.scale (model_goal model) before now
+IsFormulaOutcome model before now (Refused refusal) = IsFormulaRefusal model before now refusal
 IsFormulaOutcome model before now (Answered formula states) = IsFormulaAnswer model before now formula states
 
 -- the name is asked for, or memory ran out
@@ -113,6 +124,7 @@ names_before Usage command = []
 names_before (NotBuilt TraFile) command = take 1 (names_of command)
 names_before (NotBuilt LabFile) command = names_of command
 names_before (NotBuilt Formula) command = names_of command
+names_before (Refused refusal) command = names_of command
 names_before (Answered formula states) command = names_of command
 
 abbrev pub AsksForReply : Option FileNames → Result Reply Stop → List (List ℕ) → List (List ℕ) → Type 0

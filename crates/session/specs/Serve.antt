@@ -5,7 +5,7 @@ use Rattle.outside.specs.Shelf.{Pair, file_named}
 use Rattle.outside.specs.Whole.{WritesFront}
 use Rattle.session.specs.Command.{FileNames, names_of}
 use Rattle.session.specs.FormulaAnswer.{IsExactAnswer}
-use Rattle.session.specs.Outcome.{Outcome, IsOutcome, outcome_text, outcome_status, TakesModel, TakesFormula, first_name, tra_chain, lab_goal}
+use Rattle.session.specs.Outcome.{Outcome, IsOutcome, IsRefused, outcome_text, outcome_status, TakesModel, TakesFormula, first_name, tra_chain, lab_goal}
 use Rattle.session.specs.PlainFormula.{formula_text}
 use Rattle.session.specs.Report.{answer_text}
 use Rattle.session.specs.declared.plain_formula.PlainFormula.{PlainFormula}
@@ -13,7 +13,8 @@ use Rattle.session.specs.declared.report.StateAnswer.{StateAnswer}
 use Rattle.session.specs.declared.status.Fault.TheVariants.{Read, Write}
 use Rattle.session.specs.declared.status.Part.TheVariants.{TraFile, LabFile, Formula}
 use Rattle.session.specs.declared.status.Status.{Status}
-use Rattle.session.specs.declared.status.Status.TheVariants.{Done, Usage, NotBuilt, Outside, Memory}
+use Rattle.session.specs.declared.uniformise.Refusal.{Refusal}
+use Rattle.session.specs.declared.status.Status.TheVariants.{Done, Refused, Usage, NotBuilt, Outside, Memory}
 
 -- all of the text is written and flushed
 pub record Says (before now : Option (List ℕ)) (flushed : ℕ) (text : List ℕ) : Type 0 where
@@ -39,6 +40,10 @@ pub record AnswersExactly (names : FileNames) (files : Option (List Pair)) (left
   pub exact : (s : ℕ) → s < model.tra.n
       → IsSomeAnd (slice_get states s) (IsExactAnswer (tra_chain model.tra) (lab_goal model.lab) formula s)
 
+-- the formula was read, and there is a reason why it is refused
+abbrev pub RefusesFormula : FileNames → Option (List Pair) → Option (List ℕ) → Option (List ℕ) → Type 0
+RefusesFormula names files left_before left_now = (refusal : Refusal) × IsRefused names files left_before left_now refusal
+
 -- a front of the outcome's text is written
 pub record IsCutShort (words : List (List ℕ)) (files : Option (List Pair)) (left_before left_now before now : Option (List ℕ)) : Type 0 where
   pub outcome : Outcome
@@ -53,6 +58,7 @@ pub record AsksFor (names : List (List ℕ)) (old new : List (List ℕ)) : Type 
 -- the names that were asked for, where all was taken that the status needs
 abbrev pub AsksBy : Status → Option FileNames → List (List ℕ) → List (List ℕ) → Type 0
 AsksBy Done command old new = new ≡ old ++ names_of command
+AsksBy Refused command old new = new ≡ old ++ names_of command
 AsksBy Usage command old new = new ≡ old
 AsksBy (NotBuilt TraFile) command old new = new ≡ old ++ take 1 (names_of command)
 AsksBy (NotBuilt LabFile) command old new = new ≡ old ++ names_of command
@@ -67,6 +73,7 @@ IsUsageOrLost (Outside Write) = Unit {0}
 IsUsageOrLost Memory = Unit {0}
 IsUsageOrLost (Outside Read) = ⊥
 IsUsageOrLost Done = ⊥
+IsUsageOrLost Refused = ⊥
 IsUsageOrLost (NotBuilt part) = ⊥
 
 -- the answer is lost to a fault or to want of memory, or else P
@@ -74,6 +81,7 @@ abbrev pub IsLostOr : Status → Type 0 → Type 0
 IsLostOr (Outside fault) P = Unit {0}
 IsLostOr Memory P = Unit {0}
 IsLostOr Done P = P
+IsLostOr Refused P = P
 IsLostOr Usage P = P
 IsLostOr (NotBuilt part) P = P
 

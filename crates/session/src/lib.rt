@@ -12,6 +12,7 @@ mod report;
 mod status;
 mod sure;
 mod top;
+mod uniformise;
 
 pub use status::{Fault, Part, Status};
 pub use sure::serve_surely;

@@ -11,6 +11,7 @@ use crate::plain_formula::{PlainFormula, read_plain_formula};
 use crate::plain_lab::read_plain_lab;
 use crate::plain_tra::read_plain_tra;
 use crate::report::StateAnswer;
+use crate::uniformise::{Refusal, refusal_of};
 use crate::{Part, Status};
 use model_core::{Lab, Model, Tra};
 use outside::{Files, Source, TakeFault, read_whole};
@@ -21,6 +22,7 @@ use std::alloc::{AllocError, Global};
 pub(crate) enum Reply {
     Usage,
     NotBuilt(Part),
+    Refused(Refusal),
     Answer(Answer),
 }
 
@@ -38,6 +40,7 @@ impl Reply {
         match self {
             Reply::Usage => Status::Usage,
             Reply::NotBuilt(part) => Status::NotBuilt(*part),
+            Reply::Refused(_) => Status::Refused,
             Reply::Answer(_) => Status::Done,
         }
     }
@@ -130,7 +133,10 @@ fn make_reply(
             let formula = formula.text(alloc, name)?;
             Ok(Reply::Answer(Answer { formula, states }))
         }
-        PlainFormula::Until(_, _, _) => Ok(Reply::NotBuilt(Part::Formula)),
+        PlainFormula::Until(_, _, time) => match refusal_of(model, time) {
+            Some(refusal) => Ok(Reply::Refused(refusal)),
+            None => Ok(Reply::NotBuilt(Part::Formula)),
+        },
     }
 }
 

@@ -20,6 +20,8 @@ pub enum Fault {
 pub enum Status {
     /// The formula is answered; all text is written and flushed.
     Done,
+    /// The formula is refused, since its until has no plan; its line is written and flushed.
+    Refused,
     /// The words are no command; the usage line is written and flushed.
     Usage,
     /// This is the first part, in the order of the files and the formulas, that isn't of the plain form, or that has
@@ -40,6 +42,7 @@ impl Status {
     {
         match self {
             Status::Done => 0,
+            Status::Refused => 1,
             Status::Usage => 2,
             Status::Outside(_) => 4,
             Status::Memory => 5,

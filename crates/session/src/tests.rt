@@ -149,6 +149,48 @@ fn a_formula_that_is_not_plain_is_not_built(rt: HostRuntime) -> Result<(), Fail>
     Ok(())
 }
 
+// With exit rates of at most 1 the horizon is at most 16,384 up to the time 8177; with 10 it is up to 817.7.
+#[test]
+fn an_until_of_too_many_jumps_is_refused(rt: HostRuntime) -> Result<(), Fail> {
+    let slow: &[u8] = b"STATES 2\nTRANSITIONS 1\n1 2 1\n";
+    let still: &[u8] = b"STATES 2\nTRANSITIONS 0\n";
+    let cases: [(&[u8], &[u8], bool); 6] = [
+        (slow, b"P{>=0.5}[tt U[0,8177] a]\n", false),
+        (slow, b"P{>=0.5}[tt U[0,8177.00000000000001] a]\n", true),
+        (slow, b"P{<1}[tt U[0,8177.1] a]", true),
+        (TRA, b"P{>=0.5}[tt U[0,817.7] a]\n", false),
+        (TRA, b"P{>=0.5}[tt U[0,8.177000000000001e2] a]\n", true),
+        (still, b"P{>=0.5}[tt U[0,999999999999999999] a]\n", false),
+    ];
+    for (tra, formula, refused) in cases {
+        let (status, text) = answered(&rt, (tra, LAB), formula, 0)?;
+        let (expected, line): (Status, &[u8]) = if refused {
+            (Status::Refused, b"refused line 1 TooLong\n")
+        } else {
+            (Status::NotBuilt(Part::Formula), b"not built formula\n")
+        };
+        assert_eq!(rt; status, expected, "at {formula:?}");
+        assert_eq!(rt; text.as_slice(), line, "at {formula:?}");
+    }
+    Ok(())
+}
+
+// Over 65,536 states the tables fit up to 128 layers, that is to a horizon of 127.
+#[test]
+fn an_until_of_too_large_tables_is_refused(rt: HostRuntime) -> Result<(), Fail> {
+    let wide: &[u8] = b"STATES 65536\nTRANSITIONS 1\n1 2 1\n";
+    let (status, text) = answered(&rt, (wide, LAB), b"P{>=0.5}[tt U[0,49] a]\n", 0)?;
+    assert_eq!(rt; status, Status::Refused);
+    assert_eq!(rt; text.as_slice(), b"refused line 1 TooLarge\n".as_slice());
+    let (status, text) = answered(&rt, (wide, LAB), b"P{>=0.5}[tt U[0,48.5] a]\n", 0)?;
+    assert_eq!(rt; status, Status::NotBuilt(Part::Formula));
+    assert_eq!(rt; text.as_slice(), b"not built formula\n".as_slice());
+    let (status, text) = answered(&rt, (wide, LAB), b"P{>=0.5}[tt U[0,9000] a]\n", 0)?;
+    assert_eq!(rt; status, Status::Refused);
+    assert_eq!(rt; text.as_slice(), b"refused line 1 TooLong\n".as_slice());
+    Ok(())
+}
+
 // State 1 has the probability 3/10: at a threshold that equals it, one unit of 10^-18 below it and one above.
 #[test]
 fn a_probability_is_compared_exactly(rt: HostRuntime) -> Result<(), Fail> {

@@ -5,12 +5,13 @@ ghost use Rattle.outside.specs.Causes.{Rose, HasCause};
 ghost use Rattle.outside.specs.Shelf.{Pair};
 ghost use Rattle.outside.specs.Whole.{WritesFront};
 ghost use Rattle.session.specs.Command.{command_of, names_of};
-ghost use Rattle.session.specs.Outcome.{Outcome, IsOutcome, IsNotBuilt, TakesModel, outcome_text, outcome_status, usage_text, not_built_text};
+ghost use Rattle.session.specs.Outcome.{Outcome, IsOutcome, IsNotBuilt, TakesModel, outcome_text, outcome_status, usage_text, not_built_text, refused_text};
 ghost use Rattle.session.specs.Reading.{outcome_of, IsWritable};
-ghost use Rattle.session.specs.Serve.{Says, Settles, AnswersExactly, IsCutShort, AsksFor, AsksBy, IsUsageOrLost, IsLostOr};
+ghost use Rattle.session.specs.Serve.{Says, Settles, RefusesFormula, AnswersExactly, IsCutShort, AsksFor, AsksBy, IsUsageOrLost, IsLostOr};
 
 use crate::reading::{Reply, Stop, read_reply};
 use crate::report::write_answer;
+use crate::uniformise::Refusal;
 use crate::{Fault, Part, Status};
 use outside::{Failed, Files, Gate, PutFault, Sink, Source, write_whole};
 use std::alloc::Global;
@@ -40,6 +41,8 @@ pub fn serve<F: Files, S: Source, K: Sink, G: Gate>(
     ensures reason { IsLostOr result (Settles (map string_bytes words.now) (F.files files.old) (S.left formulas.old) (S.left formulas.new)
         (K.written out.old) (K.written out.new) (K.flushed out.new) result) }
     ensures usage { result ≡ Status.Usage → IsNone (command_of (map string_bytes words.now)) × Keeps (S.left formulas.old) (S.left formulas.new) }
+    ensures refused { result ≡ Status.Refused → IsSomeAnd (command_of (map string_bytes words.now)) (λ names.
+        RefusesFormula names (F.files files.old) (S.left formulas.old) (S.left formulas.new)) }
     ensures not_built { (part : _) → result ≡ Status.NotBuilt part → IsSomeAnd (command_of (map string_bytes words.now)) (λ names.
         IsNotBuilt names (F.files files.old) (S.left formulas.old) (S.left formulas.new) part) }
 
@@ -104,6 +107,7 @@ fn write_reply<K: Sink>(alloc: Global, out: &mut K, reply: &Reply) -> Result<(),
     match reply {
         Reply::Usage => write_whole(out, USAGE),
         Reply::NotBuilt(part) => write_whole(out, not_built(*part)),
+        Reply::Refused(refusal) => write_whole(out, refused(*refusal)),
         Reply::Answer(answer) => write_answer(alloc, &answer.formula, &answer.states, out),
     }
 }
@@ -115,5 +119,14 @@ fn not_built(part: Part) -> &'static [u8]
         Part::TraFile => b"not built tra\n",
         Part::LabFile => b"not built lab\n",
         Part::Formula => b"not built formula\n",
+    }
+}
+
+fn refused(refusal: Refusal) -> &'static [u8]
+    ensures { result.now ≡ refused_text refusal }
+{
+    match refusal {
+        Refusal::TooLong => b"refused line 1 TooLong\n",
+        Refusal::TooLarge => b"refused line 1 TooLarge\n",
     }
 }

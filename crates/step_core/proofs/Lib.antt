@@ -1,3 +1,4 @@
 pub mod Entries
 pub mod Layers
 pub mod PlanTableLemmas
+pub mod SmallModels

@@ -4,7 +4,7 @@ use Rattle.std.specs.Prelude.{slice_index}
 use Rattle.std.specs.List.{sum_by}
 use Rattle.std.proofs.lemmas.List.Sums.{sum_by-cons}
 use Rattle.ctmc_semantics.specs.Sum.{sum_below}
-use Rattle.ctmc_semantics.specs.Jumps.{Jumps, IsStochastic}
+use Rattle.ctmc_semantics.specs.Jumps.{Jumps}
 use Rattle.ctmc_semantics.specs.JumpValue.{jump_value}
 use Rattle.ctmc_semantics.specs.Reach.{ReachesBack}
 use Rattle.ctmc_semantics.specs.RoundedTables.{one_word, set_words, exact_word, high_table}
@@ -14,6 +14,7 @@ use Rattle.ctmc_semantics.proofs.Sums.{sum_below-same}
 use Rattle.ctmc_semantics.proofs.LowTables.{low_below, low_above}
 use Rattle.ctmc_semantics.proofs.HighTables.{high_over, high_under, goal_starts}
 use Rattle.ctmc_semantics.proofs.ReachLemmas.{last_above}
+use Rattle.ctmc_semantics.proofs.UniformLemmas.{rows_stochastic}
 use Rattle.round_out.specs.declared.entry.Entry.{Entry}
 use Rattle.step_core.specs.declared.mix.Mix.TheVariants.{Poisson, Last}
 use Rattle.step_core.specs.FrameLists.{FrameLists}
@@ -94,9 +95,10 @@ module _ (plan : PlanLists) (tables : TableLists) (j : Jumps) (k s : ℕ) (sound
         near = rw (word, ← exact) (high_under rows j stand live goals (set_words goals) k s inside);
       }
 
-  pub unbounded_high_above : (n : ℕ) → plan.mix ≡ Last → IsStochastic j → 0 < j.total
+  pub unbounded_high_above : (n : ℕ) → plan.mix ≡ Last → 0 < j.total
       → one_word * jump_value j live goals n s ≤ slice_index (layer_at tables.high k) s * j.total ^ n
-  unbounded_high_above n is stochastic some =
+  unbounded_high_above n is some =
+      let stochastic = rows_stochastic rows j stand in
       let reach = holds_at plan.reach in
       let start : (t : ℕ) → t < length plan.frame.rows → slice_index plan.start_upper t ≡ set_words reach t =
       λ t l. sound.start t l ∙ ap (λ m. set_words (starts_at_one m goals reach) t) is in

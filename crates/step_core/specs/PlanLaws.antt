@@ -1,7 +1,7 @@
 -- What the rows and the rounded tables of a sound plan promise.
 use Rattle.std.specs.Prelude.{◌≡◌, ℕ, ◌+◌, ◌*◌, ◌^◌, ◌<◌, ◌≤◌, length, slice_index}
 use Rattle.ctmc_semantics.specs.Sum.{sum_below}
-use Rattle.ctmc_semantics.specs.Jumps.{Jumps, IsStochastic}
+use Rattle.ctmc_semantics.specs.Jumps.{Jumps}
 use Rattle.ctmc_semantics.specs.JumpValue.{jump_value}
 use Rattle.ctmc_semantics.specs.RoundedTables.{one_word, exact_word}
 use Rattle.ctmc_semantics.specs.Rows.{Rows}
@@ -64,7 +64,7 @@ BoundedHighTableRounds =
 abbrev pub UnboundedHighTableIsAbove : Type 0
 UnboundedHighTableIsAbove =
     (plan : PlanLists) (tables : TableLists) (j : Jumps) (k n s : ℕ)
-    → IsSoundPlan plan → plan.mix ≡ Last → AreTablesOf plan tables → StandFor plan.frame.rows j → IsStochastic j → 0 < j.total
+    → IsSoundPlan plan → plan.mix ≡ Last → AreTablesOf plan tables → StandFor plan.frame.rows j → 0 < j.total
     → k ≤ plan.layers → s < length plan.frame.rows
     → one_word * jump_value j (holds_at plan.frame.sets.live_may) (holds_at plan.frame.sets.goal_may) n s
     ≤ slice_index (layer_at tables.high k) s * j.total ^ n

@@ -101,3 +101,6 @@ pub fn plain_tables(alloc: Global, plan: &Plan) -> Result<Tables, AllocError>
     }
     Ok(Tables { low, high })
 }
+
+#[cfg(test)]
+mod tests;

@@ -12,5 +12,5 @@ returns-clause-bounded c = λ plan tables weights bits j k s sound is are stand 
     bounded_high_rounds plan tables j k s sound are stand within inside weights bits is
 
 pub returns-clause-unbounded : goal.returns-clause-unbounded
-returns-clause-unbounded c = λ plan tables j k n s sound is are stand stochastic some within inside.
-    unbounded_high_above plan tables j k s sound are stand within inside n is stochastic some
+returns-clause-unbounded c = λ plan tables j k n s sound is are stand some within inside.
+    unbounded_high_above plan tables j k s sound are stand within inside n is some
