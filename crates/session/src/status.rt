@@ -1,7 +1,7 @@
 // How a command ends.
 ghost use Rattle.std.specs.Prelude.{◌≡◌};
 
-/// A part of the input that only a plain form of is built today.
+/// A part of the input, of which only a plain form is read today.
 #[derive(Clone, Copy, Debug, PartialEq, Eq)]
 pub enum Part {
     TraFile,
@@ -16,16 +16,19 @@ pub enum Fault {
     Write,
 }
 
+/// How a command ended.
 #[derive(Clone, Copy, Debug, PartialEq, Eq)]
 pub enum Status {
     /// The formula is answered; all text is written and flushed.
     Done,
-    /// The formula is refused, since its until has no plan; its line is written and flushed.
+    /// The formula is an until that would look at more than 16,384 jumps, or whose tables would have more than 2^23
+    /// words; its line is written and flushed.
     Refused,
     /// The words are no command; the usage line is written and flushed.
     Usage,
     /// This is the first part, in the order of the files and the formulas, that isn't of the plain form, or that has
-    /// too many bytes; its line is written and flushed.
+    /// too many bytes; or the formula is an until that isn't refused, since none is answered yet. Its line is written
+    /// and flushed.
     NotBuilt(Part),
     /// The outside failed. A front of the text is written.
     Outside(Fault),
