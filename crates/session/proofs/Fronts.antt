@@ -2,10 +2,10 @@
 use Rattle.std.proofs.Common.{◌≡◌, ℕ, ◌+◌, ◌<◌, ◌≤◌, List, [], ◌++◌, length, take, drop, get_or, Option, refl, sym, ap, ◌∙◌, subst, append_assoc, append-nil, length-append, arith, add-one}
 use Rattle.std.proofs.Math.Seq.{take-append-add, take-length}
 use Rattle.std.proofs.lemmas.List.{take-append-le, at_drop_more, at_drop_all}
-use Rattle.std.proofs.KnownBytes.{Appends-trans}
+use Rattle.std.proofs.KnownBytes.{Appends-nil, Appends-trans}
 use Rattle.std.specs.Io.KnownBytes.{Appends}
 use Rattle.outside.specs.Whole.{WritesFront}
-use Rattle.session.specs.Report.{state_line, state_lines, formula_line, answer_text}
+use Rattle.session.specs.Report.{state_line, state_lines, formula_line, horizon_line, answer_text}
 use Rattle.session.specs.declared.report.StateAnswer.{StateAnswer}
 
 -- of the text all but the rest is written
@@ -63,27 +63,48 @@ state_lines_all states i l = at_drop_all (state_lines (i + 1)) states i l
 line_is : (line items start piece : List ℕ) → line ≡ items → items ≡ start ++ piece → start ≡ [] → line ≡ piece
 line_is line items start piece e f n = e ∙ f ∙ ap (λ l. l ++ piece) n
 
-module _ (formula : List ℕ) (states : List StateAnswer) (a b c : Option (List ℕ)) (line items start : List ℕ) (is : line ≡ items) (empty : start ≡ []) where
+-- ---- the lines of the states
+module _ (states : List StateAnswer) (a b c : Option (List ℕ)) (line items start : List ℕ) (is : line ≡ items) (empty : start ≡ [])
+    (s : ℕ) (d : StateAnswer) (below : s < length states) (put : items ≡ start ++ state_line (s + 1) (get_or states s d))
+    (lines : IsWrittenBefore (state_lines 1 states) (state_lines (s + 1) (drop s states)) a b) where
+  next : IsWrittenBefore (state_lines 1 states) (state_line (s + 1) (get_or states s d) ++ state_lines ((s + 1) + 1) (drop (s + 1) states)) a b
+  next = subst (λ r. IsWrittenBefore (state_lines 1 states) r a b) (state_lines_more states s d below) lines
+
+  -- a front of the next state's line is written
+  pub front_of_state : WritesFront line b c → WritesFront (state_lines 1 states) a c
+  front_of_state p =
+      front_of_piece (state_lines 1 states) a b c (state_line (s + 1) (get_or states s d)) (state_lines ((s + 1) + 1) (drop (s + 1) states)) next
+      (subst (λ l. WritesFront l b c) (line_is line items start (state_line (s + 1) (get_or states s d)) is put empty) p)
+
+  -- the next state's line is written
+  pub state_written : Appends b c line → IsWrittenBefore (state_lines 1 states) (state_lines ((s + 1) + 1) (drop (s + 1) states)) a c
+  state_written p =
+      piece_written (state_lines 1 states) a b c (state_line (s + 1) (get_or states s d)) (state_lines ((s + 1) + 1) (drop (s + 1) states)) next
+      (subst (λ l. Appends b c l) (line_is line items start (state_line (s + 1) (get_or states s d)) is put empty) p)
+
+-- ---- the three parts of an answer
+module _ (formula : List ℕ) (horizon : Option ℕ) (states : List StateAnswer) (a b : Option (List ℕ)) where
   -- a front of the formula's line is written
-  pub front_of_formula : Appends a b [] → items ≡ start ++ formula_line formula → WritesFront line b c → WritesFront (answer_text formula states) a c
-  front_of_formula none put p =
-      front_of_piece (answer_text formula states) a b c (formula_line formula) (state_lines 1 states)
-      (record { done = []; splits = refl; written = none })
-      (subst (λ l. WritesFront l b c) (line_is line items start (formula_line formula) is put empty) p)
+  pub front_of_formula : WritesFront (formula_line formula) a b → WritesFront (answer_text formula horizon states) a b
+  front_of_formula p =
+      front_of_piece (answer_text formula horizon states) a a b (formula_line formula) (horizon_line horizon ++ state_lines 1 states)
+      (record { done = []; splits = refl; written = Appends-nil a }) p
 
-  module _ (s : ℕ) (d : StateAnswer) (below : s < length states) (put : items ≡ start ++ state_line (s + 1) (get_or states s d))
-      (lines : IsWrittenBefore (answer_text formula states) (state_lines (s + 1) (drop s states)) a b) where
-    next : IsWrittenBefore (answer_text formula states) (state_line (s + 1) (get_or states s d) ++ state_lines ((s + 1) + 1) (drop (s + 1) states)) a b
-    next = subst (λ r. IsWrittenBefore (answer_text formula states) r a b) (state_lines_more states s d below) lines
+  after_formula : Appends a b (formula_line formula) → IsWrittenBefore (answer_text formula horizon states) (horizon_line horizon ++ state_lines 1 states) a b
+  after_formula p = record { done = formula_line formula; splits = refl; written = p }
 
-    -- a front of the next state's line is written
-    pub front_of_state : WritesFront line b c → WritesFront (answer_text formula states) a c
-    front_of_state p =
-        front_of_piece (answer_text formula states) a b c (state_line (s + 1) (get_or states s d)) (state_lines ((s + 1) + 1) (drop (s + 1) states)) next
-        (subst (λ l. WritesFront l b c) (line_is line items start (state_line (s + 1) (get_or states s d)) is put empty) p)
+  -- the formula's line is written, and a front of the horizon's
+  pub front_of_horizon : (c : Option (List ℕ)) → Appends a b (formula_line formula) → WritesFront (horizon_line horizon) b c
+      → WritesFront (answer_text formula horizon states) a c
+  front_of_horizon c p q =
+      front_of_piece (answer_text formula horizon states) a b c (horizon_line horizon) (state_lines 1 states) (after_formula p) q
 
-    -- the next state's line is written
-    pub state_written : Appends b c line → IsWrittenBefore (answer_text formula states) (state_lines ((s + 1) + 1) (drop (s + 1) states)) a c
-    state_written p =
-        piece_written (answer_text formula states) a b c (state_line (s + 1) (get_or states s d)) (state_lines ((s + 1) + 1) (drop (s + 1) states)) next
-        (subst (λ l. Appends b c l) (line_is line items start (state_line (s + 1) (get_or states s d)) is put empty) p)
+  module _ (c d : Option (List ℕ)) (p : Appends a b (formula_line formula)) (q : Appends b c (horizon_line horizon)) where
+    after_horizon : IsWrittenBefore (answer_text formula horizon states) (state_lines 1 states ++ []) a c
+    after_horizon =
+        subst (λ r. IsWrittenBefore (answer_text formula horizon states) r a c) (sym (append-nil (state_lines 1 states)))
+        (piece_written (answer_text formula horizon states) a b c (horizon_line horizon) (state_lines 1 states) (after_formula p) q)
+
+    -- both are written, and a front of the states' lines
+    pub front_of_states : WritesFront (state_lines 1 states) c d → WritesFront (answer_text formula horizon states) a d
+    front_of_states r = front_of_piece (answer_text formula horizon states) a c d (state_lines 1 states) [] after_horizon r

@@ -1,4 +1,5 @@
 pub mod Fronts
+pub mod Mixes
 pub mod Outcomes
 pub mod PlainFormulas
 pub mod PlainHeads
@@ -10,6 +11,12 @@ pub mod PlainNumbers
 pub mod PlainPairs
 pub mod PlainRates
 pub mod PlainWords
+pub mod PlanColumns
+pub mod PlanOf
+pub mod PlanWords
 pub mod Readings
 pub mod Rounding
+pub mod SameTables
 pub mod Served
+pub mod UniformRows
+pub mod Verdicts

@@ -7,7 +7,7 @@ use Rattle.ctmc_semantics.specs.Chain.{Chain}
 use Rattle.model_core.specs.Files.{TraLists, LabLists}
 use Rattle.session.specs.Command.{FileNames}
 use Rattle.session.specs.Outcome.{Outcome, Usage, NotBuilt, Refused, Answered, TakesTra, TakesLab, TakesModel, TakesOtherTra, TakesOtherLab, TakesFormula, IsOtherInput, IsFileNotBuilt, IsNotBuilt, IsAnswered, IsRefused, IsOutcomeOf, first_name, tra_chain, lab_goal}
-use Rattle.session.specs.FormulaAnswer.{FormulaAnswer, Answers, Refuses, Unbuilt, formula_answer}
+use Rattle.session.specs.FormulaAnswer.{FormulaAnswer, Answers, Refuses, formula_answer}
 use Rattle.session.specs.PlainFormula.{formula_text, IsPlainFormula}
 use Rattle.session.specs.PlainLab.{IsPlainLab}
 use Rattle.session.specs.PlainTra.{IsPlainTra}
@@ -23,20 +23,17 @@ use Rattle.session.proofs.PlainLabs.{plain_lab_unique}
 some_same : (a b : List ℕ) → Some a ≡ Some b → a ≡ b
 some_same a b e = cc
 
-pub answered_or_not : (xs : List StateAnswer) → Answers xs ≡ Unbuilt → ⊥
-answered_or_not xs e = cc
-
-pub answered_or_refused : (xs : List StateAnswer) (r : Refusal) → Answers xs ≡ Refuses r → ⊥
-answered_or_refused xs r e = cc
-
-refused_or_not : (r : Refusal) → Refuses r ≡ Unbuilt → ⊥
-refused_or_not r e = cc
+pub answered_or_refused : (k : Option ℕ) (xs : List StateAnswer) (r : Refusal) → Answers k xs ≡ Refuses r → ⊥
+answered_or_refused k xs r e = cc
 
 same_refusal : (r t : Refusal) → Refuses r ≡ Refuses t → r ≡ t
 same_refusal r t e = cc
 
-pub same_answers : (xs ys : List StateAnswer) → Answers xs ≡ Answers ys → xs ≡ ys
-same_answers xs ys e = cc
+pub same_horizon : (k m : Option ℕ) (xs ys : List StateAnswer) → Answers k xs ≡ Answers m ys → k ≡ m
+same_horizon k m xs ys e = cc
+
+pub same_answers : (k m : Option ℕ) (xs ys : List StateAnswer) → Answers k xs ≡ Answers m ys → xs ≡ ys
+same_answers k m xs ys e = cc
 
 is_some : (names : FileNames) → IsNone (Some names) → ⊥
 is_some names e = false≢true (sym e)
@@ -117,15 +114,12 @@ module _ (left : List ℕ) where
   one_given name chain rate_decimals goal u v f g a b p q is_a is_b =
       sym is_a ∙ ap (formula_answer chain rate_decimals goal) (one_formula name u v f g p q) ∙ is_b
 
-  no_answer : (name : List ℕ) (chain : Chain) (rate_decimals : ℕ) (goal : ℕ → Bool) (u v : Option (List ℕ)) (f : PlainFormula) (a : FormulaAnswer)
-      → TakesFormula name (Some left) u f → formula_answer chain rate_decimals goal f ≡ a → (a ≡ Unbuilt → ⊥) → IsOtherInput name chain rate_decimals goal (Some left) v → ⊥
-  no_answer name chain rate_decimals goal u v f a p is_a built (inl q) =
+  no_other : (name : List ℕ) (u v : Option (List ℕ)) (f : PlainFormula) → TakesFormula name (Some left) u f → IsOtherInput name (Some left) v → ⊥
+  no_other name u v f p (inl q) =
       omega (arith, p.within, q.long, some_taken v q.bytes q.taken, ap length (all_taken u p.bytes p.taken p.end))
-  no_answer name chain rate_decimals goal u v f a p is_a built (inr (inl q)) =
+  no_other name u v f p (inr q) =
       let same : p.bytes ≡ q.bytes = sym (all_taken u p.bytes p.taken p.end) ∙ all_taken v q.bytes q.taken q.end in
       q.other f (subst (λ t. IsPlainFormula name t f) same p.plain)
-  no_answer name chain rate_decimals goal u v f a p is_a built (inr (inr q)) =
-      built (one_given name chain rate_decimals goal u v f q.formula a Unbuilt p q.takes is_a q.unbuilt)
 
 -- ---- one outcome
 module _ (pairs : List Pair) (left : List ℕ) (u v : Option (List ℕ)) (names : FileNames) where
@@ -135,8 +129,9 @@ module _ (pairs : List Pair) (left : List ℕ) (u v : Option (List ℕ)) (names 
     takes : TakesFormula (first_name model.lab.names) (Some left) now formula
     is : formula_answer (tra_chain model.tra) model.tra.scale (lab_goal model.lab) formula ≡ a
 
-  answered : (now : Option (List ℕ)) (f : List ℕ) (xs : List StateAnswer) (p : IsAnswered names (Some pairs) (Some left) now f xs) → Gives now p.formula (Answers xs)
-  answered now f xs p = record { model = p.model; takes = p.takes_formula; is = p.are_states }
+  answered : (now : Option (List ℕ)) (f : List ℕ) (k : Option ℕ) (xs : List StateAnswer) (p : IsAnswered names (Some pairs) (Some left) now f k xs)
+      → Gives now p.formula (Answers k xs)
+  answered now f k xs p = record { model = p.model; takes = p.takes_formula; is = p.are_states }
 
   refused : (now : Option (List ℕ)) (r : Refusal) (p : IsRefused names (Some pairs) (Some left) now r) → Gives now p.formula (Refuses r)
   refused now r p = record { model = p.model; takes = p.takes_formula; is = p.is_refusal }
@@ -149,22 +144,21 @@ module _ (pairs : List Pair) (left : List ℕ) (u v : Option (List ℕ)) (names 
       (subst (λ t. formula_answer (tra_chain t) t.scale (lab_goal p.model.lab) g ≡ b) model.tra
       (subst (λ l. formula_answer (tra_chain q.model.tra) q.model.tra.scale (lab_goal l) g ≡ b) model.lab q.is))
 
-  one_text : (f g : List ℕ) (xs ys : List StateAnswer) → IsAnswered names (Some pairs) (Some left) u f xs → IsAnswered names (Some pairs) (Some left) v g ys → f ≡ g
-  one_text f g xs ys p q =
+  one_text : (f g : List ℕ) (k m : Option ℕ) (xs ys : List StateAnswer) → IsAnswered names (Some pairs) (Some left) u f k xs
+      → IsAnswered names (Some pairs) (Some left) v g m ys → f ≡ g
+  one_text f g k m xs ys p q =
       let model = one_model pairs names p.model q.model in
       let name : first_name q.model.lab.names ≡ first_name p.model.lab.names = ap (λ l. first_name l.names) (sym model.lab) in
       let same : p.formula ≡ q.formula =
       one_formula left (first_name p.model.lab.names) u v p.formula q.formula p.takes_formula (subst (λ n. TakesFormula n (Some left) v q.formula) name q.takes_formula) in
       p.is_text ∙ ap (λ n. formula_text n p.formula) (sym name) ∙ ap (formula_text (first_name q.model.lab.names)) same ∙ sym q.is_text
 
-  gift_not_part : (f : PlainFormula) (a : FormulaAnswer) (part : Part) → (a ≡ Unbuilt → ⊥) → Gives u f a → IsNotBuilt names (Some pairs) (Some left) v part → ⊥
-  gift_not_part f a TraFile built p q = no_model pairs names p.model TraFile q.0
-  gift_not_part f a LabFile built p q = no_model pairs names p.model LabFile q.0
-  gift_not_part f a Formula built p q =
+  gift_not_part : (f : PlainFormula) (a : FormulaAnswer) (part : Part) → Gives u f a → IsNotBuilt names (Some pairs) (Some left) v part → ⊥
+  gift_not_part f a TraFile p q = no_model pairs names p.model TraFile q.0
+  gift_not_part f a LabFile p q = no_model pairs names p.model LabFile q.0
+  gift_not_part f a Formula p q =
       let model = one_model pairs names q.model p.model in
-      no_answer left (first_name p.model.lab.names) (tra_chain p.model.tra) p.model.tra.scale (lab_goal p.model.lab) u v f a p.takes p.is built
-      (subst (λ t. IsOtherInput (first_name p.model.lab.names) (tra_chain t) t.scale (lab_goal p.model.lab) (Some left) v) model.tra
-      (subst (λ l. IsOtherInput (first_name l.names) (tra_chain q.model.tra) q.model.tra.scale (lab_goal l) (Some left) v) model.lab q.other))
+      no_other left (first_name p.model.lab.names) u v f p.takes (subst (λ l. IsOtherInput (first_name l.names) (Some left) v) model.lab q.other)
 
   one_part : (a b : Part) → IsNotBuilt names (Some pairs) (Some left) u a → IsNotBuilt names (Some pairs) (Some left) v b → a ≡ b
   one_part TraFile TraFile p q = refl
@@ -177,20 +171,32 @@ module _ (pairs : List Pair) (left : List ℕ) (u v : Option (List ℕ)) (names 
   one_part Formula LabFile p q = absurd (no_model pairs names p.model LabFile q.0)
   one_part Formula Formula p q = refl
 
-  answer_not_part : (f : List ℕ) (xs : List StateAnswer) (part : Part) → IsAnswered names (Some pairs) (Some left) u f xs → IsNotBuilt names (Some pairs) (Some left) v part → ⊥
-  answer_not_part f xs part p q = gift_not_part p.formula (Answers xs) part (answered_or_not xs) (answered u f xs p) q
+  answer_not_part : (f : List ℕ) (k : Option ℕ) (xs : List StateAnswer) (part : Part) → IsAnswered names (Some pairs) (Some left) u f k xs
+      → IsNotBuilt names (Some pairs) (Some left) v part → ⊥
+  answer_not_part f k xs part p q = gift_not_part p.formula (Answers k xs) part (answered u f k xs p) q
 
   refusal_not_part : (r : Refusal) (part : Part) → IsRefused names (Some pairs) (Some left) u r → IsNotBuilt names (Some pairs) (Some left) v part → ⊥
-  refusal_not_part r part p q = gift_not_part p.formula (Refuses r) part (refused_or_not r) (refused u r p) q
+  refusal_not_part r part p q = gift_not_part p.formula (Refuses r) part (refused u r p) q
 
-  answer_not_refusal : (f : List ℕ) (xs : List StateAnswer) (r : Refusal) → IsAnswered names (Some pairs) (Some left) u f xs → IsRefused names (Some pairs) (Some left) v r → ⊥
-  answer_not_refusal f xs r p q = answered_or_refused xs r (one_gift p.formula q.formula (Answers xs) (Refuses r) (answered u f xs p) (refused v r q))
+  answer_not_refusal : (f : List ℕ) (k : Option ℕ) (xs : List StateAnswer) (r : Refusal) → IsAnswered names (Some pairs) (Some left) u f k xs
+      → IsRefused names (Some pairs) (Some left) v r → ⊥
+  answer_not_refusal f k xs r p q =
+      answered_or_refused k xs r (one_gift p.formula q.formula (Answers k xs) (Refuses r) (answered u f k xs p) (refused v r q))
 
-  one_answer : (f g : List ℕ) (xs ys : List StateAnswer) → IsAnswered names (Some pairs) (Some left) u f xs → IsAnswered names (Some pairs) (Some left) v g ys → xs ≡ ys
-  one_answer f g xs ys p q = same_answers xs ys (one_gift p.formula q.formula (Answers xs) (Answers ys) (answered u f xs p) (answered v g ys q))
+  one_answer : (f g : List ℕ) (k m : Option ℕ) (xs ys : List StateAnswer) → IsAnswered names (Some pairs) (Some left) u f k xs
+      → IsAnswered names (Some pairs) (Some left) v g m ys → Answers k xs ≡ Answers m ys
+  one_answer f g k m xs ys p q = one_gift p.formula q.formula (Answers k xs) (Answers m ys) (answered u f k xs p) (answered v g m ys q)
 
   one_refusal : (r t : Refusal) → IsRefused names (Some pairs) (Some left) u r → IsRefused names (Some pairs) (Some left) v t → r ≡ t
   one_refusal r t p q = same_refusal r t (one_gift p.formula q.formula (Refuses r) (Refuses t) (refused u r p) (refused v t q))
+
+  same_answered : (f g : List ℕ) (k m : Option ℕ) (xs ys : List StateAnswer) → IsAnswered names (Some pairs) (Some left) u f k xs
+      → IsAnswered names (Some pairs) (Some left) v g m ys → Answered f k xs ≡ Answered g m ys
+  same_answered f g k m xs ys p q =
+      let same = one_answer f g k m xs ys p q in
+      ap (λ h. Answered h k xs) (one_text f g k m xs ys p q)
+      ∙ ap (λ h. Answered g h xs) (same_horizon k m xs ys same)
+      ∙ ap (Answered g m) (same_answers k m xs ys same)
 
 -- without a command the usage is said
 module _ (pairs : List Pair) (left : List ℕ) (u : Option (List ℕ)) where
@@ -198,7 +204,7 @@ module _ (pairs : List Pair) (left : List ℕ) (u : Option (List ℕ)) where
   no_command Usage p = refl
   no_command (NotBuilt part) p = absurd p
   no_command (Refused r) p = absurd p
-  no_command (Answered f xs) p = absurd p
+  no_command (Answered f k xs) p = absurd p
 
 -- words, files and formulas have one outcome at most
 pub one_outcome : (pairs : List Pair) (left : List ℕ) (u v : Option (List ℕ)) (command : Option FileNames) (a b : Outcome)
@@ -208,13 +214,12 @@ one_outcome pairs left u v (Some names) Usage b p q = absurd (is_some names p.0)
 one_outcome pairs left u v (Some names) (NotBuilt a) Usage p q = absurd (is_some names q.0)
 one_outcome pairs left u v (Some names) (NotBuilt a) (NotBuilt b) p q = ap NotBuilt (one_part pairs left u v names a b p q)
 one_outcome pairs left u v (Some names) (NotBuilt a) (Refused t) p q = absurd (refusal_not_part pairs left v u names t a q p)
-one_outcome pairs left u v (Some names) (NotBuilt a) (Answered g ys) p q = absurd (answer_not_part pairs left v u names g ys a q p)
+one_outcome pairs left u v (Some names) (NotBuilt a) (Answered g m ys) p q = absurd (answer_not_part pairs left v u names g m ys a q p)
 one_outcome pairs left u v (Some names) (Refused r) Usage p q = absurd (is_some names q.0)
 one_outcome pairs left u v (Some names) (Refused r) (NotBuilt b) p q = absurd (refusal_not_part pairs left u v names r b p q)
 one_outcome pairs left u v (Some names) (Refused r) (Refused t) p q = ap Refused (one_refusal pairs left u v names r t p q)
-one_outcome pairs left u v (Some names) (Refused r) (Answered g ys) p q = absurd (answer_not_refusal pairs left v u names g ys r q p)
-one_outcome pairs left u v (Some names) (Answered f xs) Usage p q = absurd (is_some names q.0)
-one_outcome pairs left u v (Some names) (Answered f xs) (NotBuilt b) p q = absurd (answer_not_part pairs left u v names f xs b p q)
-one_outcome pairs left u v (Some names) (Answered f xs) (Refused t) p q = absurd (answer_not_refusal pairs left u v names f xs t p q)
-one_outcome pairs left u v (Some names) (Answered f xs) (Answered g ys) p q =
-    ap (λ h. Answered h xs) (one_text pairs left u v names f g xs ys p q) ∙ ap (Answered g) (one_answer pairs left u v names f g xs ys p q)
+one_outcome pairs left u v (Some names) (Refused r) (Answered g m ys) p q = absurd (answer_not_refusal pairs left v u names g m ys r q p)
+one_outcome pairs left u v (Some names) (Answered f k xs) Usage p q = absurd (is_some names q.0)
+one_outcome pairs left u v (Some names) (Answered f k xs) (NotBuilt b) p q = absurd (answer_not_part pairs left u v names f k xs b p q)
+one_outcome pairs left u v (Some names) (Answered f k xs) (Refused t) p q = absurd (answer_not_refusal pairs left u v names f k xs t p q)
+one_outcome pairs left u v (Some names) (Answered f k xs) (Answered g m ys) p q = same_answered pairs left u v names f g k m xs ys p q

@@ -1,7 +1,8 @@
 -- What the top call promises, from what it read and wrote.
-use Rattle.std.proofs.Common.{◌≡◌, ℕ, ◌<◌, List, [], ◌∷◌, ◌++◌, length, Option, Some, None, IfSome, IsSomeAnd, Result, Ok, Err, IfOk, inl, inr, refl, sym, ap, ◌∙◌, subst, arith, rules, get_or, Bool}
+use Rattle.std.proofs.Common.{◌≡◌, ℕ, suc, ◌+◌, ◌*◌, ◌^◌, ◌<◌, ◌≤◌, List, [], ◌∷◌, ◌++◌, length, map, Option, Some, None, IfSome, IsSomeAnd, Result, Ok, Err, IfOk, refl, sym, ap, ◌∙◌, subst, arith, rules, get_or, Bool, true, false, if◌then◌else◌, nat_lt}
 use Rattle.std.specs.declared.alloc.AllocError.{AllocError}
-use Rattle.std.specs.List.{slice_get}
+use Rattle.std.specs.List.{range_with_len, slice_get}
+use Rattle.std.proofs.lemmas.Bool.{ltb-false}
 use Rattle.std.specs.Io.KnownBytes.{Appends}
 use Rattle.std.proofs.lemmas.List.FromFn.{length-map-range_with_len, get_or-map-range_with_len}
 use Rattle.std.proofs.lemmas.Option.{slice_get-get_or}
@@ -11,14 +12,18 @@ use Rattle.ctmc_semantics.specs.Chain.{Chain}
 use Rattle.ctmc_semantics.specs.Fraction.{Fraction, decimal_fraction}
 use Rattle.ctmc_semantics.specs.Next.{next_probability}
 use Rattle.ctmc_semantics.specs.Threshold.{Comparison}
+use Rattle.ctmc_semantics.specs.Uniformised.{time_load}
+use Rattle.ctmc_semantics.specs.Weights.{horizon}
+use Rattle.ctmc_semantics.proofs.Powers.{power_le}
 use Rattle.model_core.specs.declared.rate.Rate.{Rate}
 use Rattle.model_core.specs.Model.{ModelLists, has_label, model_chain}
 use Rattle.model_core.specs.Transitions.{chain_of}
 use Rattle.std.specs.List.Sorted.{IsPermutation}
 use Rattle.session.specs.Command.{FileNames, names_of}
-use Rattle.session.specs.FormulaAnswer.{Answers, refused_or_unbuilt, formula_answer, IsExactAnswer}
+use Rattle.session.specs.FormulaAnswer.{FormulaAnswer, Answers, unless_refused, formula_answer, formula_horizon, formula_refusal, formula_states, IsExactAnswer}
 use Rattle.session.specs.NextAnswer.{IsExact, next_answer, next_answers}
-use Rattle.session.specs.Outcome.{Outcome, Usage, NotBuilt, Refused, Answered, TakesFormula, TakesOtherFormula, IsOtherInput, IsOutcomeOf, first_name, tra_chain, lab_goal, outcome_text, outcome_status}
+use Rattle.session.specs.UntilAnswer.{IsExactUntil, until_answers, until_bits, until_of, state_words, words_answer}
+use Rattle.session.specs.Outcome.{Outcome, Usage, NotBuilt, Refused, Answered, TakesFormula, IsOtherInput, IsOutcomeOf, first_name, tra_chain, lab_goal, outcome_text, outcome_status}
 use Rattle.session.specs.Reading.{IsModelOf, IsFormulaOutcome, IsAnswerTo, AsksForReply, model_goal, outcome_of, names_before}
 use Rattle.session.specs.PlainFormula.{formula_text, comparison_of}
 use Rattle.session.specs.Report.{answer_text}
@@ -27,14 +32,16 @@ use Rattle.session.specs.declared.plain_formula.PlainFormula.{PlainFormula}
 use Rattle.session.specs.declared.plain_formula.PlainFormula.TheVariants.{Next, Until}
 use Rattle.session.specs.declared.report.StateAnswer.{StateAnswer}
 use Rattle.session.specs.declared.uniformise.Refusal.{Refusal}
-use Rattle.session.specs.UntilPlan.{until_refusal}
+use Rattle.session.specs.declared.uniformise.Refusal.TheVariants.{TooLong, TooLarge}
+use Rattle.session.specs.UntilPlan.{until_refusal, plan_refusal, most_jumps, most_words}
 use Rattle.session.specs.declared.reading.Reply.{Reply}
 use Rattle.session.specs.declared.reading.Stop.{Stop}
 use Rattle.session.specs.declared.status.Part.TheVariants.{TraFile, LabFile, Formula}
 use Rattle.session.specs.declared.status.Status.{Status}
 use Rattle.session.specs.declared.status.Status.TheVariants as status
-use Rattle.session.proofs.Outcomes.{one_outcome, same_answers, answered_or_not, answered_or_refused}
+use Rattle.session.proofs.Outcomes.{one_outcome, same_answers, same_horizon, answered_or_refused}
 use Rattle.session.proofs.Rounding.{next_answer_exact}
+use Rattle.session.proofs.Verdicts.{until_exact}
 
 -- what is known of files that are told
 told_names : (files : Option (List Pair)) (P Q : Type 0) → (P → Q) → IfSome files (λ _. P) → IfSome files (λ _. Q)
@@ -60,16 +67,8 @@ module _ (names : FileNames) (files : Option (List Pair)) (before now : Option (
       ∙ ap (λ d. formula_answer (tra_chain is.takes.tra) d (model_goal model) f) is.built.scale
       ∙ ap (λ m. formula_answer (tra_chain is.takes.tra) is.takes.tra.scale (has_label m 0) f) is.built.marks
 
-  other_input : IsOtherInput (first_name model.names) (model_chain model) model.scale (model_goal model) before now
-      → IsOtherInput (first_name is.takes.lab.names) (tra_chain is.takes.tra) is.takes.tra.scale (lab_goal is.takes.lab) before now
-  other_input (inl h) = inl h
-  other_input (inr (inl h)) = inr (inl (subst (λ n. TakesOtherFormula n before now) name_is h))
-  other_input (inr (inr h)) =
-      inr (inr (record {
-        formula = h.formula;
-        takes = subst (λ n. TakesFormula n before now h.formula) name_is h.takes;
-        unbuilt = sym (answer_is h.formula) ∙ h.unbuilt;
-      }))
+  other_input : IsOtherInput (first_name model.names) before now → IsOtherInput (first_name is.takes.lab.names) before now
+  other_input h = subst (λ n. IsOtherInput n before now) name_is h
 
   from_formula : (outcome : Outcome) → IsFormulaOutcome model before now outcome → IsOutcomeOf (Some names) files before now outcome
   from_formula Usage h = absurd h
@@ -82,7 +81,7 @@ module _ (names : FileNames) (files : Option (List Pair)) (before now : Option (
     takes_formula = subst (λ n. TakesFormula n before now h.formula) name_is h.takes;
     is_refusal = sym (answer_is h.formula) ∙ h.is_refusal;
   }
-  from_formula (Answered text states) h = record {
+  from_formula (Answered text horizon states) h = record {
     model = is.takes;
     formula = h.formula;
     takes_formula = subst (λ n. TakesFormula n before now h.formula) name_is h.takes;
@@ -97,7 +96,7 @@ module _ (names : FileNames) (files : Option (List Pair)) (before now : Option (
   both_names (NotBuilt LabFile) h = absurd h
   both_names (NotBuilt Formula) h = refl
   both_names (Refused refusal) h = refl
-  both_names (Answered formula states) h = refl
+  both_names (Answered formula horizon states) h = refl
 
   asks_of_formula : (r : Result Reply Stop) (old new : List (List ℕ)) → IfOk r (λ reply. IsFormulaOutcome model before now (outcome_of reply))
       → new ≡ old ++ names.tra ∷ names.lab ∷ [] → AsksForReply (Some names) r old new
@@ -127,43 +126,92 @@ from_answer model before now formula (Ok reply) takes h = answered (outcome_of r
   where
     answered : (o : Outcome) → IsAnswerTo model (first_name model.names) formula o → IsFormulaOutcome model before now o
     answered Usage h = absurd h
-    answered (NotBuilt TraFile) h = absurd h
-    answered (NotBuilt LabFile) h = absurd h
-    answered (NotBuilt Formula) h = inr (inr (record { formula = formula; takes = takes; unbuilt = h }))
+    answered (NotBuilt part) h = absurd h
     answered (Refused refusal) h = record { formula = formula; takes = takes; is_refusal = h }
-    answered (Answered text states) h = record { formula = formula; takes = takes; is_text = h.0; are_states = h.1 }
+    answered (Answered text horizon states) h = record { formula = formula; takes = takes; is_text = h.0; are_states = h.1 }
 
 -- ---- an answer is exact
-exact_at : (chain : Chain) (goal : ℕ → Bool) (comparison : Comparison) (q : Fraction) (s : ℕ) (states : List StateAnswer) → states ≡ next_answers chain goal comparison q → s < chain.states
+-- what a list of answers, one a state, has at a state
+found_at : (f : ℕ → StateAnswer) (n s : ℕ) (states : List StateAnswer) → states ≡ map f (range_with_len 0 n) → s < n → slice_get states s ≡ Some (f s)
+found_at f n s states e l =
+    let long : s < length states = omega (arith, ap length e, length-map-range_with_len f 0 n) in
+    slice_get-get_or states s (f s) long
+    ∙ ap Some (ap (λ l. get_or l s (f s)) e ∙ get_or-map-range_with_len f 0 n s s (f s) l (omega arith))
+
+next_exact_at : (chain : Chain) (goal : ℕ → Bool) (comparison : Comparison) (q : Fraction) (s : ℕ) (states : List StateAnswer)
+    → states ≡ next_answers chain goal comparison q → s < chain.states
     → IsSomeAnd (slice_get states s) (IsExact comparison (next_probability chain goal s) q)
-exact_at chain goal comparison q s states e l =
+next_exact_at chain goal comparison q s states e l =
     let p = next_probability chain goal s in
-    let answer = next_answer comparison p q in
-    let long : s < length states = omega (arith, ap length e, length-map-range_with_len (λ t. next_answer comparison (next_probability chain goal t) q) 0 chain.states) in
-    let found : slice_get states s ≡ Some answer =
-    slice_get-get_or states s answer long
-    ∙ ap Some (ap (λ l. get_or l s answer) e ∙ get_or-map-range_with_len (λ t. next_answer comparison (next_probability chain goal t) q) 0 chain.states s s answer l (omega arith)) in
-    subst (λ o. IsSomeAnd o (IsExact comparison p q)) (sym found) (next_answer_exact comparison p q (omega arith))
+    subst (λ o. IsSomeAnd o (IsExact comparison p q)) (sym (found_at (λ t. next_answer comparison (next_probability chain goal t) q) chain.states s states e l))
+    (next_answer_exact comparison p q (omega arith))
+
+until_exact_at : (chain : Chain) (load : Fraction) (goal : ℕ → Bool) (comparison : Comparison) (q : Fraction) (s : ℕ) (states : List StateAnswer)
+    → 0 < load.den → 0 < q.den → horizon load until_bits ≤ 16384
+    → states ≡ until_answers chain load goal comparison q → s < chain.states
+    → IsSomeAnd (slice_get states s) (IsExactUntil comparison (horizon load until_bits) (until_of chain load goal s) q)
+until_exact_at chain load goal comparison q s states positive threshold few e l =
+    subst (λ o. IsSomeAnd o (IsExactUntil comparison (horizon load until_bits) (until_of chain load goal s) q))
+    (sym (found_at (λ t. words_answer comparison (state_words chain load goal t) q) chain.states s states e l))
+    (until_exact comparison chain load goal q s positive threshold few l)
 
 -- the states of an answered formula are as many as the chain's, and each is exact
-record AreExact (chain : Chain) (goal : ℕ → Bool) (formula : PlainFormula) (states : List StateAnswer) : Type 0 where
+record AreExact (chain : Chain) (rate_decimals : ℕ) (goal : ℕ → Bool) (formula : PlainFormula) (states : List StateAnswer) : Type 0 where
   each_state : length states ≡ chain.states
-  exact : (s : ℕ) → s < chain.states → IsSomeAnd (slice_get states s) (IsExactAnswer chain goal formula s)
+  exact : (s : ℕ) → s < chain.states → IsSomeAnd (slice_get states s) (IsExactAnswer chain rate_decimals goal formula s)
 
--- an until isn't answered
-until_unanswered : (refusal : Option Refusal) (states : List StateAnswer) → refused_or_unbuilt refusal ≡ Answers states → ⊥
-until_unanswered None states e = answered_or_not states (sym e)
-until_unanswered (Some refusal) states e = answered_or_refused states refusal (sym e)
+-- an answer is given where there is no refusal, and is the one that is due
+record IsDue (refusal : Option Refusal) (due : FormulaAnswer) (horizon : Option ℕ) (states : List StateAnswer) : Type 0 where
+  unrefused : refusal ≡ None
+  is : due ≡ Answers horizon states
 
-answers_exact : (chain : Chain) (rate_decimals : ℕ) (goal : ℕ → Bool) (formula : PlainFormula) (states : List StateAnswer)
-    → formula_answer chain rate_decimals goal formula ≡ Answers states → AreExact chain goal formula states
-answers_exact chain rate_decimals goal (Next op threshold) states e =
-    let is : states ≡ next_answers chain goal (comparison_of op) (decimal_fraction threshold.c threshold.x) = same_answers states _ (sym e) in
-    record {
-      each_state = ap length is ∙ length-map-range_with_len _ 0 chain.states;
-      exact = λ s l. exact_at chain goal (comparison_of op) (decimal_fraction threshold.c threshold.x) s states is l;
-    }
-answers_exact chain rate_decimals goal (Until op threshold time) states e = absurd (until_unanswered (until_refusal chain rate_decimals time) states e)
+is_due : (refusal : Option Refusal) (due : FormulaAnswer) (horizon : Option ℕ) (states : List StateAnswer)
+    → unless_refused refusal due ≡ Answers horizon states → IsDue refusal due horizon states
+is_due None due horizon states e = record { unrefused = refl; is = e }
+is_due (Some refusal) due horizon states e = absurd (answered_or_refused horizon states refusal (sym e))
+
+some_not_none : (r : Refusal) → Some r ≡ None → ⊥
+some_not_none r e = cc
+
+-- a plan that isn't refused has few layers
+few_layers : (last states : ℕ) → plan_refusal last states ≡ None → last ≤ 16384
+few_layers last states e = by_test (nat_lt most_jumps last) refl e
+  where
+    by_test : (long : Bool) → nat_lt most_jumps last ≡ long
+        → (if long then Some TooLong else (if nat_lt most_words (suc last * states) then Some TooLarge else None)) ≡ None → last ≤ 16384
+    by_test true is e = absurd (some_not_none TooLong e)
+    by_test false is e = omega (arith, ltb-false most_jumps last is)
+
+power_of_ten : (k : ℕ) → 0 < 10 ^ k
+power_of_ten k = omega (arith, power_le 10 0 k (omega arith) (omega arith))
+
+module _ (chain : Chain) (rate_decimals : ℕ) (goal : ℕ → Bool) (horizon : Option ℕ) (states : List StateAnswer) where
+  horizon_printed : (formula : PlainFormula) → formula_answer chain rate_decimals goal formula ≡ Answers horizon states
+      → horizon ≡ formula_horizon chain rate_decimals formula
+  horizon_printed formula e =
+      let due = is_due (formula_refusal chain rate_decimals formula) _ horizon states e in
+      sym (same_horizon (formula_horizon chain rate_decimals formula) horizon (formula_states chain rate_decimals goal formula) states due.is)
+
+  answers_exact : (formula : PlainFormula) → formula_answer chain rate_decimals goal formula ≡ Answers horizon states
+      → AreExact chain rate_decimals goal formula states
+  answers_exact (Next op threshold) e =
+      let is : states ≡ next_answers chain goal (comparison_of op) (decimal_fraction threshold.c threshold.x) =
+      sym (same_answers None horizon _ states e) in
+      record {
+        each_state = ap length is ∙ length-map-range_with_len _ 0 chain.states;
+        exact = λ s l. next_exact_at chain goal (comparison_of op) (decimal_fraction threshold.c threshold.x) s states is l;
+      }
+  answers_exact (Until op threshold time) e =
+      let load = time_load chain rate_decimals time.c time.x in
+      let due = is_due (until_refusal chain rate_decimals time) _ horizon states e in
+      let is : states ≡ until_answers chain load goal (comparison_of op) (decimal_fraction threshold.c threshold.x) =
+      sym (same_answers _ horizon _ states due.is) in
+      record {
+        each_state = ap length is ∙ length-map-range_with_len _ 0 chain.states;
+        exact = λ s l.
+            until_exact_at chain load goal (comparison_of op) (decimal_fraction threshold.c threshold.x) s states (power_of_ten (rate_decimals + time.x))
+            (power_of_ten threshold.x) (few_layers _ chain.states due.unrefused) is l;
+      }
 
 pub answered_exactly : (command : Option FileNames) (files : Option (List Pair)) (left_before left_now before now : Option (List ℕ)) (outcome : Outcome)
     → outcome_status outcome ≡ status.Done → IsOutcomeOf command files left_before left_now outcome → Appends before now (outcome_text outcome)
@@ -171,15 +219,18 @@ pub answered_exactly : (command : Option FileNames) (files : Option (List Pair))
 answered_exactly command files left_before left_now before now Usage done h printed = cc
 answered_exactly command files left_before left_now before now (NotBuilt part) done h printed = cc
 answered_exactly command files left_before left_now before now (Refused refusal) done h printed = cc
-answered_exactly None files left_before left_now before now (Answered text states) done h printed = absurd h
-answered_exactly (Some names) files left_before left_now before now (Answered text states) done h printed =
-    let are = answers_exact (tra_chain h.model.tra) h.model.tra.scale (lab_goal h.model.lab) h.formula states h.are_states in
+answered_exactly None files left_before left_now before now (Answered text horizon states) done h printed = absurd h
+answered_exactly (Some names) files left_before left_now before now (Answered text horizon states) done h printed =
+    let are = answers_exact (tra_chain h.model.tra) h.model.tra.scale (lab_goal h.model.lab) horizon states h.formula h.are_states in
     record {
       model = h.model;
       formula = h.formula;
       takes_formula = h.takes_formula;
       states = states;
-      printed = subst (λ f. Appends before now (answer_text f states)) h.is_text printed;
+      printed =
+          subst (λ k. Appends before now (answer_text (formula_text (first_name h.model.lab.names) h.formula) k states))
+          (horizon_printed (tra_chain h.model.tra) h.model.tra.scale (lab_goal h.model.lab) horizon states h.formula h.are_states)
+          (subst (λ f. Appends before now (answer_text f horizon states)) h.is_text printed);
       each_state = are.each_state;
       exact = are.exact;
     }
@@ -222,7 +273,7 @@ front_asked command (NotBuilt TraFile) old new e = record { count = 1; appended 
 front_asked command (NotBuilt LabFile) old new e = all_asked command old new e
 front_asked command (NotBuilt Formula) old new e = all_asked command old new e
 front_asked command (Refused refusal) old new e = all_asked command old new e
-front_asked command (Answered formula states) old new e = all_asked command old new e
+front_asked command (Answered formula horizon states) old new e = all_asked command old new e
 
 -- where the reply is lost on its way out, a front of the command's names was asked for
 pub lost_asks : (files : Option (List Pair)) (command : Option FileNames) (reply : Reply) (old new : List (List ℕ))

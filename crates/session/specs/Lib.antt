@@ -1,6 +1,7 @@
 pub mod Command
 pub mod ExitCode
 pub mod FormulaAnswer
+pub mod MixColumns
 pub mod NextAnswer
 pub mod Outcome
 pub mod PlainFormula
@@ -10,4 +11,6 @@ pub mod PlainTra
 pub mod Reading
 pub mod Report
 pub mod Serve
+pub mod UniformisedRow
+pub mod UntilAnswer
 pub mod UntilPlan

@@ -7,7 +7,7 @@ use Rattle.model_core.specs.Files.{TraLists, LabLists}
 use Rattle.model_core.specs.Model.{has_label}
 use Rattle.model_core.specs.Transitions.{chain_of}
 use Rattle.session.specs.Command.{FileNames, command_of}
-use Rattle.session.specs.FormulaAnswer.{Answers, Refuses, Unbuilt, formula_answer}
+use Rattle.session.specs.FormulaAnswer.{Answers, Refuses, formula_answer}
 use Rattle.session.specs.PlainFormula.{IsPlainFormula, formula_text}
 use Rattle.session.specs.PlainLab.{IsPlainLab}
 use Rattle.session.specs.PlainTra.{IsPlainTra}
@@ -24,12 +24,12 @@ use Rattle.session.specs.declared.uniformise.Refusal.TheVariants.{TooLong, TooLa
 abbrev pub formulas_limit : ℕ
 formulas_limit = 1048576
 
--- what is said: the usage, that a part isn't built, why the formula is refused, or the answer to it
+-- what is said: the usage, that a part isn't built, why the formula is refused, or its text, horizon and answers
 pub data Outcome : Type 0 where
   Usage : Outcome
   NotBuilt : Part → Outcome
   Refused : Refusal → Outcome
-  Answered : List ℕ → List StateAnswer → Outcome
+  Answered : List ℕ → Option ℕ → List StateAnswer → Outcome
 
 -- the file was taken whole, and stands for this chain
 pub record TakesTra (name : List ℕ) (files : Option (List Pair)) (tra : TraLists) : Type 0 where
@@ -86,12 +86,6 @@ pub record TakesOtherFormula (name : List ℕ) (before now : Option (List ℕ)) 
   pub end : IsAtEnd now
   pub other : (formula : PlainFormula) → ¬ IsPlainFormula name bytes formula
 
--- the formulas were read to their end, and are a formula that isn't built
-pub record TakesUnbuilt (name : List ℕ) (chain : Chain) (rate_decimals : ℕ) (goal : ℕ → Bool) (before now : Option (List ℕ)) : Type 0 where
-  pub formula : PlainFormula
-  pub takes : TakesFormula name before now formula
-  pub unbuilt : formula_answer chain rate_decimals goal formula ≡ Unbuilt
-
 -- one byte more than the limit was read of the formulas
 pub record TakesTooMuch (before now : Option (List ℕ)) : Type 0 where
   pub bytes : List ℕ
@@ -106,13 +100,13 @@ tra_chain tra = chain_of tra.n tra.rates
 abbrev pub lab_goal : LabLists → ℕ → Bool
 lab_goal lab = has_label lab.marks 0
 
--- all was read, and these are the formula's text and the answers at the states
-pub record IsAnswered (names : FileNames) (files : Option (List Pair)) (before now : Option (List ℕ)) (text : List ℕ) (states : List StateAnswer) : Type 0 where
+-- all was read, and these are the formula's text, its horizon and the answers at the states
+pub record IsAnswered (names : FileNames) (files : Option (List Pair)) (before now : Option (List ℕ)) (text : List ℕ) (horizon : Option ℕ) (states : List StateAnswer) : Type 0 where
   pub model : TakesModel names files
   pub formula : PlainFormula
   pub takes_formula : TakesFormula (first_name model.lab.names) before now formula
   pub is_text : text ≡ formula_text (first_name model.lab.names) formula
-  pub are_states : formula_answer (tra_chain model.tra) model.tra.scale (lab_goal model.lab) formula ≡ Answers states
+  pub are_states : formula_answer (tra_chain model.tra) model.tra.scale (lab_goal model.lab) formula ≡ Answers horizon states
 
 -- all was read, and this is why the formula is refused
 pub record IsRefused (names : FileNames) (files : Option (List Pair)) (before now : Option (List ℕ)) (refusal : Refusal) : Type 0 where
@@ -121,10 +115,9 @@ pub record IsRefused (names : FileNames) (files : Option (List Pair)) (before no
   pub takes_formula : TakesFormula (first_name model.lab.names) before now formula
   pub is_refusal : formula_answer (tra_chain model.tra) model.tra.scale (lab_goal model.lab) formula ≡ Refuses refusal
 
--- too much was read of the formulas, or they are no formula of the plain form, or one that isn't built
-abbrev pub IsOtherInput : List ℕ → Chain → ℕ → (ℕ → Bool) → Option (List ℕ) → Option (List ℕ) → Type 0
-IsOtherInput name chain rate_decimals goal before now =
-    TakesTooMuch before now ⊎ (TakesOtherFormula name before now ⊎ TakesUnbuilt name chain rate_decimals goal before now)
+-- too much was read of the formulas, or they are no formula of the plain form
+abbrev pub IsOtherInput : List ℕ → Option (List ℕ) → Option (List ℕ) → Type 0
+IsOtherInput name before now = TakesTooMuch before now ⊎ TakesOtherFormula name before now
 
 -- the first of the two files that isn't of the plain form, or has too many bytes
 abbrev pub IsFileNotBuilt : FileNames → Option (List Pair) → Part → Type 0
@@ -133,10 +126,10 @@ IsFileNotBuilt names files LabFile =
     (tra : TraLists) × TakesTra names.tra files tra × (IsTooBig names.lab files ⊎ TakesOtherLab tra.n names.lab files)
 IsFileNotBuilt names files Formula = ⊥
 
--- both files are of the plain form, and the formulas aren't, or aren't built, or have too many bytes
+-- both files are of the plain form, and the formulas aren't, or have too many bytes
 pub record IsFormulaNotBuilt (names : FileNames) (files : Option (List Pair)) (before now : Option (List ℕ)) : Type 0 where
   pub model : TakesModel names files
-  pub other : IsOtherInput (first_name model.lab.names) (tra_chain model.tra) model.tra.scale (lab_goal model.lab) before now
+  pub other : IsOtherInput (first_name model.lab.names) before now
 
 -- the first part, in the order of the files and the formulas, that isn't built; of the formulas nothing is read before
 abbrev pub IsNotBuilt : FileNames → Option (List Pair) → Option (List ℕ) → Option (List ℕ) → Part → Type 0
@@ -149,7 +142,7 @@ abbrev pub IsOutcomeOf : Option FileNames → Option (List Pair) → Option (Lis
 IsOutcomeOf command files before now Usage = IsNone command × Keeps before now
 IsOutcomeOf command files before now (NotBuilt part) = IsSomeAnd command (λ names. IsNotBuilt names files before now part)
 IsOutcomeOf command files before now (Refused refusal) = IsSomeAnd command (λ names. IsRefused names files before now refusal)
-IsOutcomeOf command files before now (Answered formula states) = IsSomeAnd command (λ names. IsAnswered names files before now formula states)
+IsOutcomeOf command files before now (Answered formula horizon states) = IsSomeAnd command (λ names. IsAnswered names files before now formula horizon states)
 
 -- what is answered to the words, the files and the formulas
 abbrev pub IsOutcome : List (List ℕ) → Option (List Pair) → Option (List ℕ) → Option (List ℕ) → Outcome → Type 0
@@ -172,10 +165,10 @@ abbrev pub outcome_text : Outcome → List ℕ
 outcome_text Usage = usage_text
 outcome_text (NotBuilt part) = not_built_text part
 outcome_text (Refused refusal) = refused_text refusal
-outcome_text (Answered formula states) = answer_text formula states
+outcome_text (Answered formula horizon states) = answer_text formula horizon states
 
 abbrev pub outcome_status : Outcome → Status
 outcome_status Usage = Status.Usage
 outcome_status (NotBuilt part) = Status.NotBuilt part
 outcome_status (Refused refusal) = Status.Refused
-outcome_status (Answered formula states) = Status.Done
+outcome_status (Answered formula horizon states) = Status.Done

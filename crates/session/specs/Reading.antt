@@ -7,7 +7,7 @@ use Rattle.model_core.specs.Model.{ModelLists, IsBuiltOf, has_label, model_chain
 use Rattle.session.specs.Command.{FileNames, names_of}
 use Rattle.session.specs.Outcome.{Outcome, Usage, NotBuilt, Refused, Answered, TakesTra, TakesLab, TakesModel, TakesOtherTra, TakesOtherLab, TakesFormula, TakesOtherFormula, TakesTooMuch, IsOtherInput, IsFileNotBuilt, first_name}
 use Rattle.session.specs.PlainFormula.{formula_text}
-use Rattle.session.specs.FormulaAnswer.{Answers, Refuses, Unbuilt, formula_answer}
+use Rattle.session.specs.FormulaAnswer.{Answers, Refuses, formula_answer}
 use Rattle.session.specs.Report.{IsPrintable}
 use Rattle.session.specs.Serve.{AsksFor}
 use Rattle.session.specs.declared.plain_formula.PlainFormula.{PlainFormula}
@@ -26,7 +26,7 @@ abbrev pub outcome_of : Reply → Outcome
 outcome_of UsageReply = Usage
 outcome_of (NotBuiltReply part) = NotBuilt part
 outcome_of (RefusedReply refusal) = Refused refusal
-outcome_of (AnswerReply answer) = Answered answer.formula.items answer.states.items
+outcome_of (AnswerReply answer) = Answered answer.formula.items answer.horizon answer.states.items
 
 -- the reply's lines can be written
 abbrev pub IsWritable : Reply → Type 0
@@ -64,12 +64,12 @@ IsModelReading names files (FileNotBuilt part) = IsFileNotBuilt names files part
 abbrev pub model_goal : ModelLists → ℕ → Bool
 model_goal model = has_label model.marks 0
 
--- the formula was read, and these are its text and the answers at the states
-pub record IsFormulaAnswer (model : ModelLists) (before now : Option (List ℕ)) (text : List ℕ) (states : List StateAnswer) : Type 0 where
+-- the formula was read, and these are its text, its horizon and the answers at the states
+pub record IsFormulaAnswer (model : ModelLists) (before now : Option (List ℕ)) (text : List ℕ) (horizon : Option ℕ) (states : List StateAnswer) : Type 0 where
   pub formula : PlainFormula
   pub takes : TakesFormula (first_name model.names) before now formula
   pub is_text : text ≡ formula_text (first_name model.names) formula
-  pub are_states : formula_answer (model_chain model) model.scale (model_goal model) formula ≡ Answers states
+  pub are_states : formula_answer (model_chain model) model.scale (model_goal model) formula ≡ Answers horizon states
 
 -- the formula was read, and this is why it is refused
 pub record IsFormulaRefusal (model : ModelLists) (before now : Option (List ℕ)) (refusal : Refusal) : Type 0 where
@@ -82,24 +82,22 @@ abbrev pub IsFormulaReading : List ℕ → Option (List ℕ) → Option (List �
 IsFormulaReading name before now None = TakesTooMuch before now ⊎ TakesOtherFormula name before now
 IsFormulaReading name before now (Some formula) = TakesFormula name before now formula
 
--- what the formula gives over a model whose label has the name: an answer, a refusal, or that the formula isn't built
+-- what the formula gives over a model whose label has the name: an answer or a refusal
 abbrev pub IsAnswerTo : ModelLists → List ℕ → PlainFormula → Outcome → Type 0
 IsAnswerTo model name formula Usage = ⊥
-IsAnswerTo model name formula (NotBuilt TraFile) = ⊥
-IsAnswerTo model name formula (NotBuilt LabFile) = ⊥
-IsAnswerTo model name formula (NotBuilt Formula) = formula_answer (model_chain model) model.scale (model_goal model) formula ≡ Unbuilt
+IsAnswerTo model name formula (NotBuilt part) = ⊥
 IsAnswerTo model name formula (Refused refusal) = formula_answer (model_chain model) model.scale (model_goal model) formula ≡ Refuses refusal
-IsAnswerTo model name formula (Answered text states) =
-    (text ≡ formula_text name formula) × (formula_answer (model_chain model) model.scale (model_goal model) formula ≡ Answers states)
+IsAnswerTo model name formula (Answered text horizon states) =
+    (text ≡ formula_text name formula) × (formula_answer (model_chain model) model.scale (model_goal model) formula ≡ Answers horizon states)
 
--- what the formulas give over a model: an answer, a refusal, or that the formula isn't built
+-- what the formulas give over a model: an answer, a refusal, or that they are no plain formula
 abbrev pub IsFormulaOutcome : ModelLists → Option (List ℕ) → Option (List ℕ) → Outcome → Type 0
 IsFormulaOutcome model before now Usage = ⊥
 IsFormulaOutcome model before now (NotBuilt TraFile) = ⊥
 IsFormulaOutcome model before now (NotBuilt LabFile) = ⊥
-IsFormulaOutcome model before now (NotBuilt Formula) = IsOtherInput (first_name model.names) (model_chain model) model.scale (model_goal model) before now
+IsFormulaOutcome model before now (NotBuilt Formula) = IsOtherInput (first_name model.names) before now
 IsFormulaOutcome model before now (Refused refusal) = IsFormulaRefusal model before now refusal
-IsFormulaOutcome model before now (Answered formula states) = IsFormulaAnswer model before now formula states
+IsFormulaOutcome model before now (Answered formula horizon states) = IsFormulaAnswer model before now formula horizon states
 
 -- the name is asked for, or memory ran out
 abbrev pub AsksForFile : {A : Type 0} → List ℕ → Result A Stop → List (List ℕ) → List (List ℕ) → Type 0
@@ -125,7 +123,7 @@ names_before (NotBuilt TraFile) command = take 1 (names_of command)
 names_before (NotBuilt LabFile) command = names_of command
 names_before (NotBuilt Formula) command = names_of command
 names_before (Refused refusal) command = names_of command
-names_before (Answered formula states) command = names_of command
+names_before (Answered formula horizon states) command = names_of command
 
 abbrev pub AsksForReply : Option FileNames → Result Reply Stop → List (List ℕ) → List (List ℕ) → Type 0
 AsksForReply command (Ok reply) old new = new ≡ old ++ names_before (outcome_of reply) command

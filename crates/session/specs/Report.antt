@@ -1,5 +1,5 @@
 -- What is printed of an answer.
-use Rattle.std.specs.Prelude.{ℕ, suc, ◌^◌, ◌≤◌, ◌++◌, List, [], ◌∷◌, codes, decimal}
+use Rattle.std.specs.Prelude.{ℕ, suc, ◌^◌, ◌≤◌, ◌++◌, List, [], ◌∷◌, Option, Some, None, codes, decimal}
 use Rattle.decimal_text.specs.Text.{text12}
 use Rattle.session.specs.declared.report.Verdict.{Verdict}
 use Rattle.session.specs.declared.report.Verdict.TheVariants.{Satisfied, Refuted, Undecided}
@@ -23,9 +23,14 @@ state_lines number (answer ∷ answers) = state_line number answer ++ state_line
 abbrev pub formula_line : List ℕ → List ℕ
 formula_line formula = codes "formula " ++ formula ++ 10 ∷ []
 
+-- the line of the horizon, of an until alone
+abbrev pub horizon_line : Option ℕ → List ℕ
+horizon_line (Some last) = codes "horizon " ++ decimal last ++ 10 ∷ []
+horizon_line None = []
+
 -- the lines of an answered formula
-abbrev pub answer_text : List ℕ → List StateAnswer → List ℕ
-answer_text formula states = formula_line formula ++ state_lines 1 states
+abbrev pub answer_text : List ℕ → Option ℕ → List StateAnswer → List ℕ
+answer_text formula horizon states = formula_line formula ++ (horizon_line horizon ++ state_lines 1 states)
 
 -- both ends are probabilities, in units of `10^-12`
 abbrev pub IsPrintable : StateAnswer → Type 0

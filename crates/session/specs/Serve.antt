@@ -4,7 +4,7 @@ use Rattle.std.specs.Io.KnownBytes.{Appends}
 use Rattle.outside.specs.Shelf.{Pair, file_named}
 use Rattle.outside.specs.Whole.{WritesFront}
 use Rattle.session.specs.Command.{FileNames, names_of}
-use Rattle.session.specs.FormulaAnswer.{IsExactAnswer}
+use Rattle.session.specs.FormulaAnswer.{IsExactAnswer, formula_horizon}
 use Rattle.session.specs.Outcome.{Outcome, IsOutcome, IsRefused, outcome_text, outcome_status, TakesModel, TakesFormula, first_name, tra_chain, lab_goal}
 use Rattle.session.specs.PlainFormula.{formula_text}
 use Rattle.session.specs.Report.{answer_text}
@@ -28,17 +28,18 @@ pub record Settles (words : List (List ℕ)) (files : Option (List Pair)) (left_
   pub is_status : status ≡ outcome_status outcome
   pub says : Says before now flushed (outcome_text outcome)
 
--- the answer for each state is exact: its bracket contains the probability of the formula's path, it is satisfied
--- exactly where this meets the threshold, and refuted exactly where it doesn't
+-- the formula's text, its horizon where it is an until, and an answer for each state are printed, and each answer is exact: the bracket
+-- contains the probability of the formula's path, and what is said satisfied or refuted is so
 pub record AnswersExactly (names : FileNames) (files : Option (List Pair)) (left_before left_now before now : Option (List ℕ)) : Type 0 where
   pub model : TakesModel names files
   pub formula : PlainFormula
   pub takes_formula : TakesFormula (first_name model.lab.names) left_before left_now formula
   pub states : List StateAnswer
-  pub printed : Appends before now (answer_text (formula_text (first_name model.lab.names) formula) states)
+  pub printed : Appends before now
+      (answer_text (formula_text (first_name model.lab.names) formula) (formula_horizon (tra_chain model.tra) model.tra.scale formula) states)
   pub each_state : length states ≡ model.tra.n
   pub exact : (s : ℕ) → s < model.tra.n
-      → IsSomeAnd (slice_get states s) (IsExactAnswer (tra_chain model.tra) (lab_goal model.lab) formula s)
+      → IsSomeAnd (slice_get states s) (IsExactAnswer (tra_chain model.tra) model.tra.scale (lab_goal model.lab) formula s)
 
 -- the formula was read, and there is a reason why it is refused
 abbrev pub RefusesFormula : FileNames → Option (List Pair) → Option (List ℕ) → Option (List ℕ) → Type 0

@@ -1,9 +1,19 @@
 -- When the plan of a time-bounded until is refused.
-use Rattle.std.specs.Prelude.{ℕ, suc, ◌*◌, ◌^◌, if◌then◌else◌, nat_lt, Option, Some, None}
+use Rattle.std.specs.Prelude.{◌≡◌, ℕ, suc, ◌*◌, ◌<◌, ◌^◌, Bool, true, if◌then◌else◌, nat_lt, Option, Some, None}
 use Rattle.ctmc_semantics.specs.Chain.{Chain}
-use Rattle.ctmc_semantics.specs.Uniformised.{time_load}
+use Rattle.ctmc_semantics.specs.Fraction.{Fraction}
+use Rattle.ctmc_semantics.specs.Table.{holds_at}
+use Rattle.ctmc_semantics.specs.Uniformised.{time_load, uniformised}
 use Rattle.ctmc_semantics.specs.Weights.{horizon}
 use Rattle.decimal_text.specs.DecimalNumber.{DecimalNumber}
+use Rattle.step_core.specs.FrameRows.{StandFor}
+use Rattle.step_core.specs.PlanLists.{PlanLists}
+use Rattle.step_core.specs.PlanLoad.{FitsPoisson}
+use Rattle.step_core.specs.SoundPlan.{IsSoundPlan}
+use Rattle.step_core.specs.WeightLists.{WeightLists}
+use Rattle.step_core.specs.declared.bracket.Bracket.{Bracket}
+use Rattle.step_core.specs.declared.mix.Mix.TheVariants.{Poisson}
+use Rattle.session.specs.UntilAnswer.{until_bits, state_words}
 use Rattle.session.specs.declared.uniformise.Refusal.{Refusal}
 use Rattle.session.specs.declared.uniformise.Refusal.TheVariants.{TooLong, TooLarge}
 
@@ -23,4 +33,23 @@ plan_refusal last states =
 
 -- jumps are looked at up to the horizon of the load, past which at most `2^-30` is left
 abbrev pub until_refusal : Chain → ℕ → DecimalNumber → Option Refusal
-until_refusal chain rate_decimals time = plan_refusal (horizon (time_load chain rate_decimals time.c time.x) 30) chain.states
+until_refusal chain rate_decimals time = plan_refusal (horizon (time_load chain rate_decimals time.c time.x) until_bits) chain.states
+
+-- the plan is sound, and is that of reaching the goal within the load's time: its rows stand for the uniformised chain, every state is live,
+-- and its weights are the load's
+pub record IsUntilPlan (chain : Chain) (load : Fraction) (goal : ℕ → Bool) (plan : PlanLists) : Type 0 where
+  pub sound : IsSoundPlan plan
+  pub rows : StandFor plan.frame.rows (uniformised chain)
+  pub goal_must : (s : ℕ) → s < chain.states → holds_at plan.frame.sets.goal_must s ≡ goal s
+  pub goal_may : (s : ℕ) → s < chain.states → holds_at plan.frame.sets.goal_may s ≡ goal s
+  pub live_must : (s : ℕ) → s < chain.states → holds_at plan.frame.sets.live_must s ≡ true
+  pub live_may : (s : ℕ) → s < chain.states → holds_at plan.frame.sets.live_may s ≡ true
+  pub weights : WeightLists
+  pub is_mix : plan.mix ≡ Poisson weights until_bits
+  pub fits : FitsPoisson load plan.layers weights until_bits
+
+-- the bracket is that of the state's words, whatever chain, load and goal the plan is for
+abbrev pub IsStateBracket : PlanLists → ℕ → Bracket → Type 0
+IsStateBracket plan s bracket =
+    (chain : Chain) (load : Fraction) (goal : ℕ → Bool) → IsUntilPlan chain load goal plan → s < chain.states
+    → record { lower = bracket.lower; upper = bracket.upper } ≡ state_words chain load goal s

@@ -2,6 +2,7 @@
 #![tactic(auto)]
 
 mod command;
+mod mix_columns;
 mod nested_verdict;
 mod plain_formula;
 mod plain_lab;
@@ -13,6 +14,9 @@ mod status;
 mod sure;
 mod top;
 mod uniformise;
+mod uniformised_rows;
+mod until_plan;
+mod until_states;
 
 pub use status::{Fault, Part, Status};
 pub use sure::serve_surely;
@@ -20,3 +24,5 @@ pub use top::serve;
 
 #[cfg(test)]
 mod tests;
+#[cfg(test)]
+mod until_tests;

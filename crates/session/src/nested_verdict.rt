@@ -1,18 +1,22 @@
-// The answers of formulas: a next operator over one label, compared exactly.
+// The answers of formulas at each state.
 ghost use Rattle.std.specs.Prelude.{◌≡◌, ◌+◌, ◌<◌, ◌≤◌, ◌*◌, ◌^◌, length, IfOk, All};
 ghost use Rattle.ctmc_semantics.specs.Fraction.{fraction, decimal_fraction};
 ghost use Rattle.ctmc_semantics.specs.Next.{next_probability, rate_into};
+ghost use Rattle.ctmc_semantics.specs.WordBracket.{WordBracket};
 ghost use Rattle.model_core.specs.Model.{has_label};
 ghost use Rattle.model_core.specs.Transitions.{chain_of};
 ghost use Rattle.session.specs.NextAnswer.{next_answer, next_answers, meets_threshold, rounded_bracket};
 ghost use Rattle.session.specs.PlainFormula.{comparison_of};
 ghost use Rattle.session.specs.Report.{IsPrintable};
+ghost use Rattle.session.specs.UntilAnswer.{words_satisfy, words_refute, decided_verdict, words_answer};
 
 use crate::plain_formula::Op;
 use crate::report::{Printed, StateAnswer, Verdict};
 use decimal_text::Decimal;
 use model_core::Model;
+use round_out::{ONE, cmp_frac, mul_div_ceil, mul_div_floor};
 use std::alloc::{AllocError, Global};
+use step_core::Bracket;
 
 // A printed number counts units of 10^-12.
 const UNITS: u128 = 1_000_000_000_000;
@@ -101,5 +105,51 @@ fn rounded_bracket(num: u64, den: u64) -> Printed
     Printed {
         low: (units / den) as u64,
         high: units.div_ceil(den) as u64,
+    }
+}
+
+/// The answer of a state whose probability lies between the words.
+pub(crate) fn words_answer(words: Bracket, op: Op, threshold: Decimal) -> StateAnswer
+    requires lower { words.lower ≤ 2 ^ 62 }
+    requires upper { words.upper ≤ 2 ^ 62 }
+    ensures answer { result ≡ words_answer (comparison_of op) record { lower = words.lower; upper = words.upper } (decimal_fraction threshold.c threshold.x) }
+    ensures printable { IsPrintable result }
+{
+    StateAnswer {
+        verdict: words_verdict(words, op, threshold),
+        bracket: Printed {
+            low: mul_div_floor(words.lower, UNITS as u64, ONE),
+            high: mul_div_ceil(words.upper, UNITS as u64, ONE),
+        },
+    }
+}
+
+// What the words show of the threshold.
+fn words_verdict(words: Bracket, op: Op, threshold: Decimal) -> Verdict
+    requires lower { words.lower ≤ 2 ^ 62 }
+    requires upper { words.upper ≤ 2 ^ 62 }
+    ensures { let w : WordBracket = record { lower = words.lower; upper = words.upper } in
+        result ≡ decided_verdict (words_satisfy (comparison_of op) w (decimal_fraction threshold.c threshold.x))
+        (words_refute (comparison_of op) w (decimal_fraction threshold.c threshold.x)) }
+{
+    let lower = cmp_frac(words.lower, ONE, threshold.c, threshold.x);
+    let upper = cmp_frac(words.upper, ONE, threshold.c, threshold.x);
+    match op {
+        Op::Less => decided_verdict(upper.is_lt(), lower.is_ge()),
+        Op::AtMost => decided_verdict(upper.is_le(), lower.is_gt()),
+        Op::More => decided_verdict(lower.is_gt(), upper.is_le()),
+        Op::AtLeast => decided_verdict(lower.is_ge(), upper.is_lt()),
+    }
+}
+
+fn decided_verdict(satisfied: bool, refuted: bool) -> Verdict
+    ensures { result ≡ decided_verdict satisfied refuted }
+{
+    if satisfied {
+        Verdict::Satisfied
+    } else if refuted {
+        Verdict::Refuted
+    } else {
+        Verdict::Undecided
     }
 }

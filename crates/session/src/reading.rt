@@ -1,18 +1,27 @@
 // What is answered to the words, the files and the formulas.
-ghost use Rattle.std.specs.Prelude.{◌≡◌, ℕ, ◌⊎◌, List, [], ◌∷◌, ◌++◌, map, string_bytes, length, IfOk, IfSome, IsErr, IsErrOf, IsNone, IsSomeAnd, ◌≤◌};
+ghost use Rattle.std.specs.Prelude.{◌≡◌, ℕ, ◌⊎◌, List, [], ◌∷◌, ◌++◌, map, string_bytes, length, IfOk, IfSome, IsErr, IsErrOf, IsNone, IsSomeAnd, ◌≤◌, All};
+ghost use Rattle.ctmc_semantics.specs.Fraction.{decimal_fraction};
+ghost use Rattle.ctmc_semantics.specs.Weights.{mode, horizon};
+ghost use Rattle.model_core.specs.Model.{has_label, model_chain};
 ghost use Rattle.outside.specs.Causes.{Rose};
 ghost use Rattle.session.specs.Command.{file_names, command_of};
 ghost use Rattle.session.specs.Outcome.{IsOutcome, TakesModel, outcome_status};
+ghost use Rattle.session.specs.PlainFormula.{comparison_of};
+ghost use Rattle.session.specs.Report.{IsPrintable};
+ghost use Rattle.session.specs.UntilAnswer.{until_answers, until_bits};
 ghost use Rattle.session.specs.Reading.{outcome_of, IsWritable, IsFileReading, IsTraReading, IsLabReading, IsModelReading, IsFormulaReading, AsksForFile, AsksForModel, AsksForReply, IsFormulaOutcome, IsAnswerTo};
 
 use crate::command::read_words;
 use crate::nested_verdict::check_next;
-use crate::plain_formula::{PlainFormula, read_plain_formula};
+use crate::plain_formula::{Op, PlainFormula, read_plain_formula};
 use crate::plain_lab::read_plain_lab;
 use crate::plain_tra::read_plain_tra;
 use crate::report::StateAnswer;
-use crate::uniformise::{Refusal, refusal_of};
+use crate::uniformise::{Refusal, TimeBound, time_bound};
+use crate::until_plan::plan_until;
+use crate::until_states::check_until;
 use crate::{Part, Status};
+use decimal_text::Decimal;
 use model_core::{Lab, Model, Tra};
 use outside::{Files, Source, TakeFault, read_whole};
 use std::alloc::{AllocError, Global};
@@ -26,10 +35,11 @@ pub(crate) enum Reply {
     Answer(Answer),
 }
 
-/// The answer to a formula: its canonical text, and what holds at each state.
+/// The answer to a formula: its canonical text, the horizon where it is an until, and what holds at each state.
 #[derive(Drop)]
 pub(crate) struct Answer {
     pub(crate) formula: Vec<u8>,
+    pub(crate) horizon: Option<u32>,
     pub(crate) states: Vec<StateAnswer>,
 }
 
@@ -127,17 +137,43 @@ fn make_reply(
     ensures reply { IfOk result (λ reply. IsAnswerTo model.now name.now formula (outcome_of reply)) }
     ensures writable { IfOk result IsWritable }
 {
-    match formula {
-        PlainFormula::Next(op, threshold) => {
-            let states = check_next(alloc, model, 0, op, threshold)?;
-            let formula = formula.text(alloc, name)?;
-            Ok(Reply::Answer(Answer { formula, states }))
-        }
-        PlainFormula::Until(_, _, time) => match refusal_of(model, time) {
-            Some(refusal) => Ok(Reply::Refused(refusal)),
-            None => Ok(Reply::NotBuilt(Part::Formula)),
+    let (horizon, states) = match formula {
+        PlainFormula::Next(op, threshold) => (None, check_next(alloc, model, 0, op, threshold)?),
+        PlainFormula::Until(op, threshold, time) => match time_bound(model, time) {
+            Err(refusal) => return Ok(Reply::Refused(refusal)),
+            Ok(bound) => {
+                let states = answer_until(alloc, model, bound, op, threshold)?;
+                (Some(bound.last), states)
+            }
         },
-    }
+    };
+    let formula = formula.text(alloc, name)?;
+    Ok(Reply::Answer(Answer {
+        formula,
+        horizon,
+        states,
+    }))
+}
+
+// Answers the until over the one label of the model, by a plan for its time bound.
+fn answer_until(
+    alloc: Global,
+    model: &Model,
+    bound: TimeBound,
+    op: Op,
+    threshold: Decimal,
+) -> Result<Vec<StateAnswer>, AllocError>
+    requires name { length model.now.names ≡ 1 }
+    requires last { bound.last ≡ horizon bound.load until_bits }
+    requires few { bound.last ≤ 16384 }
+    requires has_mode { mode bound.load ≤ bound.last }
+    ensures answers { IfOk result (λ states. states.items ≡ until_answers (model_chain model.now) bound.load (has_label model.now.marks 0)
+        (comparison_of op) (decimal_fraction threshold.c threshold.x)) }
+    ensures printable { IfOk result (λ states. All IsPrintable states.items) }
+    ensures few { IfOk result (λ states. length states.items ≤ 65536) }
+{
+    let plan = plan_until(alloc, model, 0, &bound.load, bound.last)?;
+    check_until(alloc, model, 0, &plan, op, threshold)
 }
 
 // Takes and reads the two files, and builds the model.

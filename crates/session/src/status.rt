@@ -27,8 +27,7 @@ pub enum Status {
     /// The words are no command; the usage line is written and flushed.
     Usage,
     /// This is the first part, in the order of the files and the formulas, that isn't of the plain form, or that has
-    /// too many bytes; or the formula is an until that isn't refused, since none is answered yet. Its line is written
-    /// and flushed.
+    /// too many bytes. Its line is written and flushed.
     NotBuilt(Part),
     /// The outside failed. A front of the text is written.
     Outside(Fault),

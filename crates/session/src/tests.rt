@@ -16,7 +16,7 @@ const ANSWER: &[u8] =
 const USAGE: &[u8] =
     b"usage: mrmc_any (ctmc M.tra M.lab | cmrm M.tra M.lab M.rew) [--workers 1..64] [--bits 8..48] [--jumps 1..16384] [--watch 0..1000] [--state 1..65536]\n";
 
-fn words(alloc: Global, texts: &[&str]) -> Result<Vec<String>, AllocError> {
+pub(crate) fn words(alloc: Global, texts: &[&str]) -> Result<Vec<String>, AllocError> {
     let mut words = Vec::new(alloc);
     for text in texts {
         words.push(String::from_str(alloc, text)?)?;
@@ -24,7 +24,11 @@ fn words(alloc: Global, texts: &[&str]) -> Result<Vec<String>, AllocError> {
     Ok(words)
 }
 
-fn files(alloc: Global, tra: &[u8], lab: &[u8]) -> Result<Vec<(String, Vec<u8>)>, AllocError> {
+pub(crate) fn files(
+    alloc: Global,
+    tra: &[u8],
+    lab: &[u8],
+) -> Result<Vec<(String, Vec<u8>)>, AllocError> {
     let mut files = Vec::new(alloc);
     files.push((String::from_str(alloc, "M.tra")?, tra.to_vec(alloc)?))?;
     files.push((String::from_str(alloc, "M.lab")?, lab.to_vec(alloc)?))?;
@@ -32,7 +36,7 @@ fn files(alloc: Global, tra: &[u8], lab: &[u8]) -> Result<Vec<(String, Vec<u8>)>
 }
 
 // Serves over objects that don't fail, each of which moves at most `cut` bytes in one call.
-fn answered(
+pub(crate) fn answered(
     rt: &(impl Threads + Sync + AllocGlobal),
     model: (&[u8], &[u8]),
     formulas: &[u8],
@@ -125,7 +129,7 @@ fn labels_that_are_not_plain_are_not_built(rt: HostRuntime) -> Result<(), Fail> 
 
 #[test]
 fn a_formula_that_is_not_plain_is_not_built(rt: HostRuntime) -> Result<(), Fail> {
-    let texts: [&[u8]; 14] = [
+    let texts: [&[u8]; 18] = [
         b"",
         b"P{=0.3}[X a]\n",
         b"P{>= 0.3}[X a]\n",
@@ -139,55 +143,17 @@ fn a_formula_that_is_not_plain_is_not_built(rt: HostRuntime) -> Result<(), Fail>
         b"P{>=0.3}[X a\n",
         b"P{>=0.3}[X a] \n",
         b"P{>=0.3}[X a]\n\n",
-        b"P{>=0.3}[tt U[0,1] a]\n",
+        b"P{>=0.3}[tt U a]\n",
+        b"P{>=0.3}[tt U[0,] a]\n",
+        b"P{>=0.3}[tt U[1,2] a]\n",
+        b"P{>=0.3}[tt U[0, 1] a]\n",
+        b"P{>=0.3}[a U[0,1] a]\n",
     ];
     for text in texts {
         let (status, said) = answered(&rt, (TRA, LAB), text, 0)?;
         assert_eq!(rt; status, Status::NotBuilt(Part::Formula), "at {text:?}");
         assert_eq!(rt; said.as_slice(), b"not built formula\n".as_slice());
     }
-    Ok(())
-}
-
-// With exit rates of at most 1 the horizon is at most 16,384 up to the time 8177; with 10 it is up to 817.7.
-#[test]
-fn an_until_of_too_many_jumps_is_refused(rt: HostRuntime) -> Result<(), Fail> {
-    let slow: &[u8] = b"STATES 2\nTRANSITIONS 1\n1 2 1\n";
-    let still: &[u8] = b"STATES 2\nTRANSITIONS 0\n";
-    let cases: [(&[u8], &[u8], bool); 6] = [
-        (slow, b"P{>=0.5}[tt U[0,8177] a]\n", false),
-        (slow, b"P{>=0.5}[tt U[0,8177.00000000000001] a]\n", true),
-        (slow, b"P{<1}[tt U[0,8177.1] a]", true),
-        (TRA, b"P{>=0.5}[tt U[0,817.7] a]\n", false),
-        (TRA, b"P{>=0.5}[tt U[0,8.177000000000001e2] a]\n", true),
-        (still, b"P{>=0.5}[tt U[0,999999999999999999] a]\n", false),
-    ];
-    for (tra, formula, refused) in cases {
-        let (status, text) = answered(&rt, (tra, LAB), formula, 0)?;
-        let (expected, line): (Status, &[u8]) = if refused {
-            (Status::Refused, b"refused line 1 TooLong\n")
-        } else {
-            (Status::NotBuilt(Part::Formula), b"not built formula\n")
-        };
-        assert_eq!(rt; status, expected, "at {formula:?}");
-        assert_eq!(rt; text.as_slice(), line, "at {formula:?}");
-    }
-    Ok(())
-}
-
-// Over 65,536 states the tables fit up to 128 layers, that is to a horizon of 127.
-#[test]
-fn an_until_of_too_large_tables_is_refused(rt: HostRuntime) -> Result<(), Fail> {
-    let wide: &[u8] = b"STATES 65536\nTRANSITIONS 1\n1 2 1\n";
-    let (status, text) = answered(&rt, (wide, LAB), b"P{>=0.5}[tt U[0,49] a]\n", 0)?;
-    assert_eq!(rt; status, Status::Refused);
-    assert_eq!(rt; text.as_slice(), b"refused line 1 TooLarge\n".as_slice());
-    let (status, text) = answered(&rt, (wide, LAB), b"P{>=0.5}[tt U[0,48.5] a]\n", 0)?;
-    assert_eq!(rt; status, Status::NotBuilt(Part::Formula));
-    assert_eq!(rt; text.as_slice(), b"not built formula\n".as_slice());
-    let (status, text) = answered(&rt, (wide, LAB), b"P{>=0.5}[tt U[0,9000] a]\n", 0)?;
-    assert_eq!(rt; status, Status::Refused);
-    assert_eq!(rt; text.as_slice(), b"refused line 1 TooLong\n".as_slice());
     Ok(())
 }
 

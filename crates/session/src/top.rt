@@ -108,7 +108,13 @@ fn write_reply<K: Sink>(alloc: Global, out: &mut K, reply: &Reply) -> Result<(),
         Reply::Usage => write_whole(out, USAGE),
         Reply::NotBuilt(part) => write_whole(out, not_built(*part)),
         Reply::Refused(refusal) => write_whole(out, refused(*refusal)),
-        Reply::Answer(answer) => write_answer(alloc, &answer.formula, &answer.states, out),
+        Reply::Answer(answer) => write_answer(
+            alloc,
+            &answer.formula,
+            answer.horizon,
+            &answer.states,
+            out,
+        ),
     }
 }
 

@@ -1,7 +1,9 @@
-// The plan of a time-bounded until, as far as its refusals.
-ghost use Rattle.std.specs.Prelude.{◌≡◌, ◌<◌, ◌^◌};
+// What a time bound asks of a plan: its load and its horizon.
+ghost use Rattle.std.specs.Prelude.{◌≡◌, Ok, Err, Some, None, ◌<◌, ◌≤◌, ◌^◌, IfOk, MatchResult};
 ghost use Rattle.ctmc_semantics.specs.Uniformised.{greatest_exit_rate, time_load};
+ghost use Rattle.ctmc_semantics.specs.Weights.{mode, horizon};
 ghost use Rattle.model_core.specs.Model.{model_chain};
+ghost use Rattle.session.specs.UntilAnswer.{until_bits};
 ghost use Rattle.session.specs.UntilPlan.{until_refusal};
 
 use decimal_text::Decimal;
@@ -18,21 +20,34 @@ pub(crate) enum Refusal {
 }
 
 // An average that is cut at the horizon lacks at most 2^-30.
-const BITS: u32 = 30;
+pub(crate) const BITS: u32 = 30;
 
 const MOST_WORDS: u64 = 1 << 23;
 
-/// Why an until with the time bound is refused over the model, None where it isn't.
-pub(crate) fn refusal_of(model: &Model, time: Decimal) -> Option<Refusal>
-    ensures { result ≡ until_refusal (model_chain model.now) model.now.scale time }
+/// The expected number of jumps within a time, and the number of jumps up to which is looked.
+#[derive(Clone, Copy, Debug)]
+pub(crate) struct TimeBound {
+    pub(crate) load: Load,
+    pub(crate) last: u32,
+}
+
+/// The load and the horizon of an until with the time bound over the model, or why it is refused.
+pub(crate) fn time_bound(model: &Model, time: Decimal) -> Result<TimeBound, Refusal>
+    ensures refusal { MatchResult result (λ _. until_refusal (model_chain model.now) model.now.scale time ≡ None)
+        (λ refusal. until_refusal (model_chain model.now) model.now.scale time ≡ Some refusal) }
+    ensures load { IfOk result (λ bound. bound.load ≡ time_load (model_chain model.now) model.now.scale time.c time.x) }
+    ensures last { IfOk result (λ bound. bound.last ≡ horizon bound.load until_bits) }
+    ensures few { IfOk result (λ bound. bound.last ≤ 16384) }
+    ensures has_mode { IfOk result (λ bound. mode bound.load ≤ bound.last) }
 {
-    let Some(last) = horizon(&time_load(model, time), BITS) else {
-        return Some(Refusal::TooLong);
+    let load = time_load(model, time);
+    let Some(last) = horizon(&load, BITS) else {
+        return Err(Refusal::TooLong);
     };
     if (u64::from(last) + 1) * u64::from(model.n()) > MOST_WORDS {
-        return Some(Refusal::TooLarge);
+        return Err(Refusal::TooLarge);
     }
-    None
+    Ok(TimeBound { load, last })
 }
 
 // The number of jumps that are expected within the time.
@@ -44,7 +59,7 @@ fn time_load(model: &Model, time: Decimal) -> Load
 }
 
 // The greatest rate at which a state is left.
-fn greatest_exit_rate(model: &Model) -> u64
+pub(crate) fn greatest_exit_rate(model: &Model) -> u64
     ensures value { result ≡ greatest_exit_rate (model_chain model.now) }
     ensures bound { result < 2 ^ 63 }
 {

@@ -1,0 +1,99 @@
+-- The mixes of a plan's tables are the words of the until.
+use Rattle.std.proofs.Common.{◌≡◌, ℕ, ◌<◌, ◌≤◌, Bool, true, false, cond, refl, sym, ap, ◌∙◌, length, arith}
+use Rattle.std.specs.Prelude.{slice_index}
+use Rattle.ctmc_semantics.specs.Chain.{Chain}
+use Rattle.ctmc_semantics.specs.Fraction.{Fraction}
+use Rattle.ctmc_semantics.specs.Mix.{mix_low, mix_high}
+use Rattle.ctmc_semantics.specs.RoundedTables.{one_word, set_words, low_table, high_table}
+use Rattle.ctmc_semantics.specs.Rows.{rows_of}
+use Rattle.ctmc_semantics.specs.Table.{holds_at}
+use Rattle.ctmc_semantics.specs.Uniformised.{uniform_rate, uniformised}
+use Rattle.ctmc_semantics.specs.Weights.{low_weight, high_weight}
+use Rattle.ctmc_semantics.specs.WordBracket.{WordBracket, settle, until_words}
+use Rattle.std.proofs.lemmas.Bool.{false≢true}
+use Rattle.step_core.specs.WeightLists.{WeightLists}
+use Rattle.step_core.specs.declared.mix.Mix.TheVariants.{Poisson}
+use Rattle.ctmc_semantics.proofs.MixNarrow.{mix_low_reads, mix_high_reads}
+use Rattle.step_core.specs.PlanLists.{PlanLists}
+use Rattle.step_core.specs.PlanTables.{AreTablesOf, layer_at}
+use Rattle.step_core.specs.FrameRows.{frame_rows}
+use Rattle.step_core.specs.SoundPlan.{starts_at_one}
+use Rattle.step_core.specs.TableLists.{TableLists}
+use Rattle.session.specs.UntilAnswer.{every_state, until_bits, state_words}
+use Rattle.session.specs.UntilPlan.{IsUntilPlan}
+use Rattle.session.proofs.SameTables.{low_of_rows, high_of_rows}
+
+-- ---- the settled words of a state off the goal, and at it
+off_goal : (l u : ℕ) (g : Bool) (w : WordBracket) → g ≡ false → l ≡ w.lower → u ≡ w.upper → record { lower = l; upper = u } ≡ settle g true w
+off_goal l u true w e p q = absurd (false≢true (sym e))
+off_goal l u false w e p q = ap (λ z. record { lower = z; upper = u }) p ∙ ap (λ z. record { lower = w.lower; upper = z }) q
+
+on_goal : (g : Bool) (w : WordBracket) → g ≡ true → record { lower = one_word; upper = one_word } ≡ settle g true w
+on_goal true w e = refl
+on_goal false w e = absurd (false≢true e)
+
+module _ (chain : Chain) (load : Fraction) (goal : ℕ → Bool) (plan : PlanLists) (tables : TableLists)
+    (is : IsUntilPlan chain load goal plan) (of_plan : AreTablesOf plan tables) (s : ℕ) (inside : s < chain.states) where
+  some_rate : 0 < uniform_rate chain
+  some_rate = omega arith
+
+  states : length plan.frame.rows ≡ chain.states
+  states = is.rows.same_states
+
+  below : (t : ℕ) → t < length plan.frame.rows → t < chain.states
+  below t l = omega (arith, l, states)
+
+  here : s < length plan.frame.rows
+  here = omega (arith, inside, states)
+
+  start_is : (t : ℕ) → t < length plan.frame.rows → slice_index plan.start_upper t ≡ set_words goal t
+  start_is t l =
+      is.sound.start t l
+      ∙ ap (λ m. set_words (starts_at_one m (holds_at plan.frame.sets.goal_may) (holds_at plan.reach)) t) is.is_mix
+      ∙ ap (λ z. cond z one_word 0) (is.goal_may t (below t l))
+
+  low_word : (k : ℕ) → k ≤ plan.layers → slice_index (layer_at tables.low k) s ≡ low_table (rows_of (uniformised chain)) every_state goal k s
+  low_word k l =
+      (of_plan.low.layer k l).words s here
+      ∙ low_of_rows (frame_rows plan.frame.rows) (uniformised chain) is.rows some_rate (holds_at plan.frame.sets.live_must) every_state
+      (holds_at plan.frame.sets.goal_must) goal (λ t m. is.live_must t (below t m)) (λ t m. is.goal_must t (below t m)) k s here
+
+  high_word : (k : ℕ) → k ≤ plan.layers → slice_index (layer_at tables.high k) s
+      ≡ high_table (rows_of (uniformised chain)) every_state goal (set_words goal) k s
+  high_word k l =
+      (of_plan.high.layer k l).words s here
+      ∙ high_of_rows (frame_rows plan.frame.rows) (uniformised chain) is.rows some_rate (holds_at plan.frame.sets.live_may) every_state
+      (holds_at plan.frame.sets.goal_may) goal (λ t m. is.live_may t (below t m)) (λ t m. is.goal_may t (below t m))
+      (slice_index plan.start_upper) (set_words goal) start_is k s here
+
+  pub lower_mix : mix_low plan.layers (slice_index is.weights.low) (slice_index is.weights.high) (λ k. slice_index (layer_at tables.low k) s)
+      ≡ (until_words (rows_of (uniformised chain)) load until_bits every_state goal every_state goal s).lower
+  lower_mix =
+      mix_low_reads plan.layers (slice_index is.weights.low) (slice_index is.weights.high) (λ k. slice_index (layer_at tables.low k) s)
+      (low_weight load) (high_weight load) (λ k. low_table (rows_of (uniformised chain)) every_state goal k s)
+      is.fits.weights_of.low is.fits.weights_of.high low_word
+      ∙ ap (λ n. mix_low n (low_weight load) (high_weight load) (λ k. low_table (rows_of (uniformised chain)) every_state goal k s)) is.fits.last_layer
+
+  pub upper_mix : mix_high plan.layers until_bits (slice_index is.weights.low) (slice_index is.weights.high) (λ k. slice_index (layer_at tables.high k) s)
+      ≡ (until_words (rows_of (uniformised chain)) load until_bits every_state goal every_state goal s).upper
+  upper_mix =
+      mix_high_reads plan.layers until_bits (slice_index is.weights.low) (slice_index is.weights.high) (λ k. slice_index (layer_at tables.high k) s)
+      (low_weight load) (high_weight load) (λ k. high_table (rows_of (uniformised chain)) every_state goal (set_words goal) k s)
+      is.fits.weights_of.low is.fits.weights_of.high high_word
+      ∙ ap (λ n. mix_high n until_bits (low_weight load) (high_weight load) (λ k. high_table (rows_of (uniformised chain)) every_state goal (set_words goal) k s)) is.fits.last_layer
+
+  same_weights : (weights other : WeightLists) (bits : ℕ) → Poisson weights bits ≡ Poisson other bits → weights ≡ other
+  same_weights weights other bits e = cc
+
+  pub mixed_words : (weights : WeightLists) → plan.mix ≡ Poisson weights until_bits → goal s ≡ false → (lower upper : ℕ)
+      → lower ≡ mix_low plan.layers (slice_index weights.low) (slice_index weights.high) (λ k. slice_index (layer_at tables.low k) s)
+      → upper ≡ mix_high plan.layers until_bits (slice_index weights.low) (slice_index weights.high) (λ k. slice_index (layer_at tables.high k) s)
+      → record { lower = lower; upper = upper } ≡ state_words chain load goal s
+  mixed_words weights mix outside lower upper e f =
+      let same : weights ≡ is.weights = same_weights weights is.weights until_bits (sym mix ∙ is.is_mix) in
+      off_goal lower upper (goal s) _ outside
+      (e ∙ ap (λ w. mix_low plan.layers (slice_index w.low) (slice_index w.high) (λ k. slice_index (layer_at tables.low k) s)) same ∙ lower_mix)
+      (f ∙ ap (λ w. mix_high plan.layers until_bits (slice_index w.low) (slice_index w.high) (λ k. slice_index (layer_at tables.high k) s)) same ∙ upper_mix)
+
+  pub goal_words : goal s ≡ true → record { lower = one_word; upper = one_word } ≡ state_words chain load goal s
+  goal_words e = on_goal (goal s) _ e

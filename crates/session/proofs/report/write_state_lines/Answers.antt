@@ -1,0 +1,27 @@
+use Rattle.std.proofs.Common.{◌∙◌, arith}
+use Rattle.session.proofs.Fronts.{front_so_far, front_of_state, state_written}
+use Rattle.session.specs.Report.{state_lines}
+use Rattle.session.proofs.report.write_state_lines.Goals as goal
+
+pub returns-in_err-put_state_line-clause-front : goal.returns-in_err-put_state_line-clause-front
+returns-in_err-put_state_line-clause-front g c =
+    front_so_far (state_lines 1 c.args.states.now) _ _ _ c.loop-s.invariant.lines
+
+pub returns-in_err-write_whole-clause-front : goal.returns-in_err-write_whole-clause-front
+returns-in_err-write_whole-clause-front g c =
+    front_of_state c.args.states.now _ _ _ _ _ _ c.deref.ensures.value c.clear.ensures.items
+    c.loop-s.s _ c.loop-s-test.true c.in_ok-put_state_line.ensures c.loop-s.invariant.lines c.in_err-write_whole.ensures.front
+
+pub loop-s-preserved : goal.loop-s-preserved
+loop-s-preserved g c =
+    record {
+      lines =
+          state_written c.args.states.now _ _ _ _ _ _ c.deref.ensures.value c.clear.ensures.items
+          c.loop-s.s _ c.loop-s-test.true c.in_ok-put_state_line.ensures c.loop-s.invariant.lines c.in_ok-write_whole.ensures.ok;
+      flushed = c.in_ok-write_whole.ensures.flushed ∙ c.loop-s.invariant.flushed;
+      later = omega (arith, c.in_ok-write_whole.ensures.cause.later, c.loop-s.invariant.later);
+    }
+
+pub returns-clause-front : goal.returns-clause-front
+returns-clause-front g c =
+    front_so_far (state_lines 1 c.args.states.now) _ _ _ c.loop-s.invariant.lines
