@@ -10,7 +10,7 @@ ghost use Rattle.step_core.specs.PlanTables.{IsLayer, AreTablesOf};
 
 use crate::plan::Plan;
 use crate::row::Row;
-use crate::row_value::{divisor_of, high_word, low_word};
+use crate::row_value::{Standing, both_words, divisor_of};
 use crate::sets::Sets;
 use crate::tables::Tables;
 use round_out::{Divisor, ONE};
@@ -45,20 +45,17 @@ fn next_layer(
     for state in 0..rows.len() {
         let row = &rows[state];
         divisor = divisor_of(row, divisor);
-        next_low[state] = low_word(
-            row,
-            &divisor,
-            sets.goal_must[state],
-            sets.live_must[state],
-            low,
-        );
-        next_high[state] = high_word(
-            row,
-            &divisor,
-            sets.goal_may[state],
-            sets.live_may[state],
-            high,
-        );
+        let must = Standing {
+            is_goal: sets.goal_must[state],
+            is_live: sets.live_must[state],
+        };
+        let may = Standing {
+            is_goal: sets.goal_may[state],
+            is_live: sets.live_may[state],
+        };
+        let (low_word, high_word) = both_words(row, &divisor, must, may, low, high);
+        next_low[state] = low_word;
+        next_high[state] = high_word;
     }
     Ok((next_low, next_high))
 }

@@ -1,12 +1,29 @@
 // The value of one row over a layer's words.
 
-ghost use Rattle.std.specs.Prelude.{◌≡◌, ◌*◌, ◌/◌, ◌^◌, ◌<◌, ◌≤◌, All, length, slice_index, if◌then◌else◌};
+ghost use Rattle.std.specs.Prelude.{◌≡◌, ◌*◌, ◌/◌, ◌^◌, ◌<◌, ◌≤◌, All, length, slice_index, if◌then◌else◌, ◌&&◌, not};
 ghost use Rattle.std.specs.List.{sum_by};
 ghost use Rattle.std.specs.Int.{div_ceil};
 ghost use Rattle.step_core.specs.SoundFrame.{IsSoundRow};
 
 use crate::row::Row;
 use round_out::{Divisor, Dot, Entry, ONE};
+
+/// Where a state stands: whether it is of the goal, and whether it is live.
+#[derive(Clone, Copy, Debug)]
+pub struct Standing {
+    pub is_goal: bool,
+    pub is_live: bool,
+}
+
+impl Standing {
+    // Whether the state's value is the quotient of its row.
+    #[inline]
+    fn needs_row(self) -> bool
+        ensures { result ≡ (self.is_live && not self.is_goal) }
+    {
+        self.is_live && !self.is_goal
+    }
+}
 
 /// The row's divisor, prepared for divisions: the last one, where it is the same.
 #[inline]
@@ -60,6 +77,82 @@ pub fn high_word(row: &Row, divisor: &Divisor, is_goal: bool, is_live: bool, wor
     } else {
         0
     }
+}
+
+/// `low_word` over the lower words and `high_word` over the upper ones, in one pass over the row's
+/// entries where both values need them.
+#[inline]
+pub fn both_words(
+    row: &Row,
+    divisor: &Divisor,
+    must: Standing,
+    may: Standing,
+    low: &[u64],
+    high: &[u64],
+) -> (u64, u64)
+    requires low_targets { IsSoundRow (length low.now) row.now }
+    requires high_targets { IsSoundRow (length high.now) row.now }
+    requires divisor { divisor.now ≡ row.now.den }
+    requires low_words { All (λ w. w ≤ ONE) low.now }
+    requires high_words { All (λ w. w ≤ ONE) high.now }
+    ensures low { result.0 ≡ (if must.is_goal then ONE else (if must.is_live
+        then sum_by (λ e. e.num * slice_index low.now e.to) row.now.entries / row.now.den else 0)) }
+    ensures high { result.1 ≡ (if may.is_goal then ONE else (if may.is_live
+        then div_ceil (sum_by (λ e. e.num * slice_index high.now e.to) row.now.entries) row.now.den else 0)) }
+    ensures low_at_most_one { result.0 ≤ ONE }
+    ensures high_at_most_one { result.1 ≤ ONE }
+{
+    if must.needs_row() && may.needs_row() {
+        return both_quotients(row, divisor, low, high);
+    }
+    (
+        low_word(row, divisor, must.is_goal, must.is_live, low),
+        high_word(row, divisor, may.is_goal, may.is_live, high),
+    )
+}
+
+/// The quotients of the row over the lower words, rounded down, and over the upper ones, rounded up.
+#[inline]
+fn both_quotients(row: &Row, divisor: &Divisor, low: &[u64], high: &[u64]) -> (u64, u64)
+    requires low_targets { IsSoundRow (length low.now) row.now }
+    requires high_targets { IsSoundRow (length high.now) row.now }
+    requires divisor { divisor.now ≡ row.now.den }
+    requires low_words { All (λ w. w ≤ ONE) low.now }
+    requires high_words { All (λ w. w ≤ ONE) high.now }
+    ensures low { result.0 ≡ sum_by (λ e. e.num * slice_index low.now e.to) row.now.entries / row.now.den }
+    ensures high { result.1 ≡ div_ceil (sum_by (λ e. e.num * slice_index high.now e.to) row.now.entries) row.now.den }
+    ensures low_at_most_one { result.0 ≤ ONE }
+    ensures high_at_most_one { result.1 ≤ ONE }
+{
+    match row.entries.as_slice() {
+        [only] => (low[only.to as usize], high[only.to as usize]),
+        entries => {
+            let (low, high) = both_dots(entries, low, high);
+            (low.floor_by(divisor), high.ceil_by(divisor))
+        }
+    }
+}
+
+/// The entries' numbers times their targets' words, added up: the lower ones and the upper ones.
+#[inline]
+fn both_dots(entries: &[Entry], low: &[u64], high: &[u64]) -> (Dot, Dot)
+    requires low_targets { All (λ e. e.to < length low.now) entries.now }
+    requires high_targets { All (λ e. e.to < length high.now) entries.now }
+    requires fits { sum_by (λ e. e.num) entries.now < 2 ^ 63 }
+    requires low_words { All (λ w. w ≤ ONE) low.now }
+    requires high_words { All (λ w. w ≤ ONE) high.now }
+    ensures low { result.0.products ≡ sum_by (λ e. e.num * slice_index low.now e.to) entries.now }
+    ensures high { result.1.products ≡ sum_by (λ e. e.num * slice_index high.now e.to) entries.now }
+    ensures low_numbers { result.0.numbers ≡ sum_by (λ e. e.num) entries.now }
+    ensures high_numbers { result.1.numbers ≡ sum_by (λ e. e.num) entries.now }
+{
+    let mut low_dot = Dot::new();
+    let mut high_dot = Dot::new();
+    for entry in entries {
+        low_dot.add(entry.num, low[entry.to as usize]);
+        high_dot.add(entry.num, high[entry.to as usize]);
+    }
+    (low_dot, high_dot)
 }
 
 /// The quotient of the row over the words, rounded down. A row of one entry leads surely to its
