@@ -129,9 +129,6 @@ module _ (last : ℕ) (weights : WeightLists) (sound : AreSoundWeights last weig
   abbrev high : ℕ → ℕ
   high k = get_or weights.high k 0
 
-  pub low_at_most_one : (k : ℕ) → k ≤ last → low k ≤ 2 ^ 62
-  low_at_most_one k l = omega (arith, sound.ordered k l, sound.at_most_one k l)
-
   pub low_some : one_word ≤ sum_below (suc last) low
   low_some = omega (arith, term_le (suc last) sound.mode low (omega (arith, sound.mode_layer)), sound.mode_low)
 

@@ -164,3 +164,6 @@ pub(crate) fn mixed_brackets(
     }
     Ok(brackets)
 }
+
+#[cfg(test)]
+mod tests;
