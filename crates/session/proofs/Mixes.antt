@@ -1,6 +1,8 @@
 -- What a read of a list gives, and bounds of the sums of a mix.
-use Rattle.std.proofs.Common.{◌≡◌, ℕ, suc, ◌+◌, ◌*◌, ◌/◌, ◌^◌, ◌≤◌, ◌<◌, List, [], length, map, get_or, sym, ap, ◌∙◌, arith, add-one}
+use Rattle.std.proofs.Common.{◌≡◌, ℕ, zero, suc, ◌+◌, ◌*◌, ◌/◌, ◌^◌, ◌≤◌, ◌<◌, List, [], ◌∷◌, ◌++◌, take, drop, length, map, get_or, sym, ap, subst, ◌∙◌, arith, add-one}
+use Rattle.std.proofs.Math.Seq.{take-append_seam}
 use Rattle.std.proofs.lemmas.Nat.{le-div, mul-le}
+use Rattle.std.proofs.lemmas.List.FromFn.{map-range_with_len_more, get_or-map-range_with_len}
 use Rattle.std.proofs.lemmas.List.{get_or-map, get_or_default, length-map}
 use Rattle.std.specs.Int.{div_ceil}
 use Rattle.ctmc_semantics.specs.RoundedTables.{one_word}
@@ -11,7 +13,9 @@ use Rattle.ctmc_semantics.proofs.MixNarrow.{sum_capped, sum_below_whole, cap_who
 use Rattle.step_core.specs.PlanTables.{layer_at}
 use Rattle.step_core.specs.WeightLists.{WeightLists}
 use Rattle.step_core.specs.SoundPlan.{AreSoundWeights}
-use Rattle.session.specs.MixColumns.{column}
+use Rattle.step_core.specs.TableLists.{TableLists}
+use Rattle.step_core.specs.declared.bracket.Bracket.{Bracket}
+use Rattle.session.specs.MixColumns.{column, IsWordTable, HasSums, floor_sum, ceiling_sum, column_mixes, first_mixes}
 
 -- ---- reads
 pub read_word : (xs : List ℕ) (k r : ℕ) → k < length xs → r ≡ get_or xs k r → r ≡ get_or xs k 0
@@ -23,10 +27,6 @@ module _ {X : Type 0} (f : X → List ℕ) where
       let inside : k < length xs = omega (arith, length-map xs f) in
       ap f read ∙ sym (get_or-map f xs k v [] inside)
 
-pub read_column : (layer : List ℕ) (table : List (List ℕ)) (state k x : ℕ) → layer ≡ layer_at table k → state < length (layer_at table k)
-    → x ≡ get_or layer state x → x ≡ column table state k
-read_column layer table state k x e l read = read ∙ (ap (λ z. get_or z state x) e ∙ get_or_default (layer_at table k) state x 0 l)
-
 -- ---- a product of two words, in units of 2^14
 pub product_le : (w x : ℕ) → w ≤ 2 ^ 62 → x ≤ 2 ^ 62 → w * x ≤ 2 ^ 124
 product_le w x h k = omega (arith, mul-le w x (2 ^ 62) (2 ^ 62) h k)
@@ -37,6 +37,90 @@ floor_le w x h k = omega (arith, product_le w x h k)
 pub ceiling_le : (w x : ℕ) → w ≤ 2 ^ 62 → x ≤ 2 ^ 62 → div_ceil (w * x) (2 ^ 14) ≤ 2 ^ 110
 ceiling_le w x h k = ceil_le (w * x) (2 ^ 14) (2 ^ 110) (omega arith) (omega (arith, product_le w x h k))
 
+-- ---- sums, a term at a time
+pub sum_more : (n : ℕ) (f : ℕ → ℕ) (s v : ℕ) → s ≡ sum_below n f → v ≡ f n → s + v ≡ sum_below (n + 1) f
+sum_more n f s v e g = rw (add-one n) (ap (λ z. z + v) e ∙ ap (λ z. sum_below n f + z) g)
+
+-- ---- the sums of all states, a layer at a time
+floor_terms_le : (k : ℕ) (weights : List ℕ) (word : ℕ → ℕ) → ((j : ℕ) → j < k → get_or weights j 0 ≤ 2 ^ 62) → ((j : ℕ) → j < k → word j ≤ 2 ^ 62)
+    → floor_sum k weights word ≤ k * 2 ^ 110
+floor_terms_le zero weights word h i = omega arith
+floor_terms_le (suc k) weights word h i =
+    omega (
+      arith,
+      floor_terms_le k weights word (λ j l. h j (omega arith)) (λ j l. i j (omega arith)),
+      floor_le (get_or weights k 0) (word k) (h k (omega arith)) (i k (omega arith)),
+    )
+
+ceiling_terms_le : (k : ℕ) (weights : List ℕ) (word : ℕ → ℕ) → ((j : ℕ) → j < k → get_or weights j 0 ≤ 2 ^ 62) → ((j : ℕ) → j < k → word j ≤ 2 ^ 62)
+    → ceiling_sum k weights word ≤ k * 2 ^ 110
+ceiling_terms_le zero weights word h i = omega arith
+ceiling_terms_le (suc k) weights word h i =
+    omega (
+      arith,
+      ceiling_terms_le k weights word (λ j l. h j (omega arith)) (λ j l. i j (omega arith)),
+      ceiling_le (get_or weights k 0) (word k) (h k (omega arith)) (i k (omega arith)),
+    )
+
+module _ (last n : ℕ) (weights : List ℕ) (table : List (List ℕ)) (is : IsWordTable last n table)
+    (small : (k : ℕ) → k ≤ last → get_or weights k 0 ≤ 2 ^ 62) where
+  pub layer_small : (k : ℕ) (words : List ℕ) → k ≤ last → words ≡ layer_at table k → (s : ℕ) → s < length words → get_or words s 0 ≤ 2 ^ 62
+  layer_small k words l e s i =
+      let inside : s < n = omega (arith, i, ap length e, is.states k l) in
+      rw e (is.at_most_one k s l inside)
+
+  pub floor_room : (k : ℕ) (sums : List ℕ) → k ≤ suc last → HasSums n (λ s. floor_sum k weights (column table s)) sums
+      → (s : ℕ) → s < length sums → get_or sums s 0 ≤ k * 2 ^ 110
+  floor_room k sums l has s i =
+      let inside : s < n = omega (arith, i, has.states) in
+      rw (has.values s inside) (floor_terms_le k weights (column table s) (λ j m. small j (omega arith)) (λ j m. is.at_most_one j s (omega arith) inside))
+
+  pub ceiling_room : (k : ℕ) (sums : List ℕ) → k ≤ suc last → HasSums n (λ s. ceiling_sum k weights (column table s)) sums
+      → (s : ℕ) → s < length sums → get_or sums s 0 ≤ k * 2 ^ 110
+  ceiling_room k sums l has s i =
+      let inside : s < n = omega (arith, i, has.states) in
+      rw (has.values s inside) (ceiling_terms_le k weights (column table s) (λ j m. small j (omega arith)) (λ j m. is.at_most_one j s (omega arith) inside))
+
+-- a vector that is lent whole as a slice holds what the slice has at the end
+written : (len : ℕ) (new old : List ℕ) → length old ≡ len → length new ≡ len → take len (new ++ drop (length new) old) ≡ new
+written len new old e f = rw (← f) (take-append_seam new (drop (length new) old))
+
+pub floors_more : (n k weight len : ℕ) (weights : List ℕ) (table : List (List ℕ)) (sums words new : List ℕ)
+    → HasSums n (λ s. floor_sum k weights (column table s)) sums → weight ≡ get_or weights k 0 → words ≡ layer_at table k
+    → length sums ≡ len → length new ≡ len → ((s : ℕ) → s < length new → get_or new s 0 ≡ get_or sums s 0 + weight * get_or words s 0 / 2 ^ 14)
+    → HasSums n (λ s. floor_sum (k + 1) weights (column table s)) (take len (new ++ drop (length new) sums))
+floors_more n k weight len weights table sums words new has e f g i h =
+    rw (written len new sums g i)
+    (record {
+      states = i ∙ sym g ∙ has.states;
+      values = λ s l.
+          h s (omega (arith, i, g, has.states, l))
+          ∙ sum_more k (λ j. get_or weights j 0 * column table s j / 2 ^ 14) (get_or sums s 0) _ (has.values s l)
+          (ap (λ z. z * get_or words s 0 / 2 ^ 14) e ∙ ap (λ z. get_or weights k 0 * get_or z s 0 / 2 ^ 14) f);
+    })
+
+pub floors_ended : (n last k : ℕ) (weights : List ℕ) (table : List (List ℕ)) (sums : List ℕ) → HasSums n (λ s. floor_sum k weights (column table s)) sums → k ≡ suc last
+    → HasSums n (λ s. floor_sum (suc last) weights (column table s)) sums
+floors_ended n last k weights table sums has e = subst (λ m. HasSums n (λ s. floor_sum m weights (column table s)) sums) e has
+
+pub ceilings_more : (n k weight len : ℕ) (weights : List ℕ) (table : List (List ℕ)) (sums words new : List ℕ)
+    → HasSums n (λ s. ceiling_sum k weights (column table s)) sums → weight ≡ get_or weights k 0 → words ≡ layer_at table k
+    → length sums ≡ len → length new ≡ len → ((s : ℕ) → s < length new → get_or new s 0 ≡ get_or sums s 0 + div_ceil (weight * get_or words s 0) (2 ^ 14))
+    → HasSums n (λ s. ceiling_sum (k + 1) weights (column table s)) (take len (new ++ drop (length new) sums))
+ceilings_more n k weight len weights table sums words new has e f g i h =
+    rw (written len new sums g i)
+    (record {
+      states = i ∙ sym g ∙ has.states;
+      values = λ s l.
+          h s (omega (arith, i, g, has.states, l))
+          ∙ sum_more k (λ j. div_ceil (get_or weights j 0 * column table s j) (2 ^ 14)) (get_or sums s 0) _ (has.values s l)
+          (ap (λ z. div_ceil (z * get_or words s 0) (2 ^ 14)) e ∙ ap (λ z. div_ceil (get_or weights k 0 * get_or z s 0) (2 ^ 14)) f);
+    })
+
+pub ceilings_ended : (n last k : ℕ) (weights : List ℕ) (table : List (List ℕ)) (sums : List ℕ) → HasSums n (λ s. ceiling_sum k weights (column table s)) sums → k ≡ suc last
+    → HasSums n (λ s. ceiling_sum (suc last) weights (column table s)) sums
+ceilings_ended n last k weights table sums has e = subst (λ m. HasSums n (λ s. ceiling_sum m weights (column table s)) sums) e has
+
 -- ---- the sums of sound weights
 module _ (last : ℕ) (weights : WeightLists) (sound : AreSoundWeights last weights) where
   abbrev low : ℕ → ℕ
@@ -44,9 +128,6 @@ module _ (last : ℕ) (weights : WeightLists) (sound : AreSoundWeights last weig
 
   abbrev high : ℕ → ℕ
   high k = get_or weights.high k 0
-
-  pub low_at_most_one : (k : ℕ) → k ≤ last → low k ≤ 2 ^ 62
-  low_at_most_one k l = omega (arith, sound.ordered k l, sound.at_most_one k l)
 
   pub low_some : one_word ≤ sum_below (suc last) low
   low_some = omega (arith, term_le (suc last) sound.mode low (omega (arith, sound.mode_layer)), sound.mode_low)
@@ -68,20 +149,55 @@ module _ (last : ℕ) (weights : WeightLists) (sound : AreSoundWeights last weig
       (sum_capped (suc last) (2 ^ 62) low high x (λ k l. sound.ordered k (omega arith)) (λ k l. h k (omega arith)))
       (le_ceil (sum_below (suc last) high) (2 ^ 14) (omega arith))
 
--- ---- sums, a term at a time
-pub sum_more : (n : ℕ) (f : ℕ → ℕ) (s v : ℕ) → s ≡ sum_below n f → v ≡ f n → s + v ≡ sum_below (n + 1) f
-sum_more n f s v e g = rw (add-one n) (ap (λ z. z + v) e ∙ ap (λ z. sum_below n f + z) g)
+-- ---- the read of a state's sum
+read_sum : (n : ℕ) (sum : ℕ → ℕ) (sums : List ℕ) (s r : ℕ) → HasSums n sum sums → s < n → r ≡ get_or sums s r → r ≡ sum s
+read_sum n sum sums s r has inside read = read_word sums s r (omega (arith, has.states, inside)) read ∙ has.values s inside
 
-pub sum_ended : (last n : ℕ) (f : ℕ → ℕ) (s : ℕ) → s ≡ sum_below n f → n ≡ suc last → s ≡ sum_below (suc last) f
-sum_ended last n f s e h = e ∙ ap (λ z. sum_below z f) h
+pub read_floor : (n m s r : ℕ) (xs ys : List ℕ) (t u : List (List ℕ)) (sums : List ℕ) → HasSums n (λ s. floor_sum m xs (column t s)) sums
+    → xs ≡ ys → t ≡ u → s < n → r ≡ get_or sums s r → r ≡ floor_sum m ys (column u s)
+read_floor n m s r xs ys t u sums has e f inside read =
+    read_sum n _ sums s r has inside read
+    ∙ ap (λ z. floor_sum m z (column t s)) e
+    ∙ ap (λ z. floor_sum m ys (column z s)) f
 
-pub floors_same : (last state : ℕ) (xs ys : List ℕ) (t u : List (List ℕ)) (r : ℕ)
-    → r ≡ sum_below (suc last) (λ k. get_or xs k 0 * column t state k / 2 ^ 14) → xs ≡ ys → t ≡ u
-    → r ≡ sum_below (suc last) (λ k. get_or ys k 0 * column u state k / 2 ^ 14)
-floors_same last state xs ys t u r e h g =
-    e
-    ∙ ap (λ z. sum_below (suc last) (λ k. get_or z k 0 * column t state k / 2 ^ 14)) h
-    ∙ ap (λ z. sum_below (suc last) (λ k. get_or ys k 0 * column z state k / 2 ^ 14)) g
+pub read_ceiling : (n m s r : ℕ) (xs ys : List ℕ) (t u : List (List ℕ)) (sums : List ℕ) → HasSums n (λ s. ceiling_sum m xs (column t s)) sums
+    → xs ≡ ys → t ≡ u → s < n → r ≡ get_or sums s r → r ≡ ceiling_sum m ys (column u s)
+read_ceiling n m s r xs ys t u sums has e f inside read =
+    read_sum n _ sums s r has inside read
+    ∙ ap (λ z. ceiling_sum m z (column t s)) e
+    ∙ ap (λ z. ceiling_sum m ys (column z s)) f
+
+pub ceiling_sum_le : (last n s : ℕ) (weights : List ℕ) (table : List (List ℕ)) → IsWordTable last n table
+    → ((k : ℕ) → k ≤ last → get_or weights k 0 ≤ 2 ^ 62) → s < n → ceiling_sum (suc last) weights (column table s) ≤ suc last * 2 ^ 110
+ceiling_sum_le last n s weights table is small inside =
+    ceiling_terms_le (suc last) weights (column table s) (λ j l. small j (omega arith)) (λ j l. is.at_most_one j s (omega arith) inside)
+
+-- ---- one bracket more
+bracket_same : (b : Bracket) (l u : ℕ) → b.lower ≡ l → b.upper ≡ u → b ≡ record { lower = l; upper = u }
+bracket_same b l u e f = ap (λ z. record { lower = z; upper = b.upper }) e ∙ ap (λ z. record { lower = l; upper = z }) f
+
+pub brackets_more : (last bits s : ℕ) (weights : WeightLists) (tables : TableLists) (brackets : List Bracket) (b : Bracket)
+    → brackets ≡ first_mixes last bits weights tables s
+    → b.lower ≡ (column_mixes last bits weights tables s).lower → b.upper ≡ (column_mixes last bits weights tables s).upper
+    → brackets ++ b ∷ [] ≡ first_mixes last bits weights tables (s + 1)
+brackets_more last bits s weights tables brackets b so_far e f =
+    ap (λ l. l ++ b ∷ []) so_far
+    ∙ ap (λ a. first_mixes last bits weights tables s ++ a ∷ []) (bracket_same b _ _ e f)
+    ∙ sym (map-range_with_len_more (column_mixes last bits weights tables) 0 s s (omega arith))
+
+-- ---- what is read of the brackets
+pub read_mixes : (last bits n s : ℕ) (weights : WeightLists) (tables : TableLists) (brackets : List Bracket) (b : Bracket)
+    → brackets ≡ first_mixes last bits weights tables n → s < n → b ≡ get_or brackets s b → b ≡ column_mixes last bits weights tables s
+read_mixes last bits n s weights tables brackets b e inside read =
+    read ∙ ap (λ z. get_or z s b) e ∙ get_or-map-range_with_len (column_mixes last bits weights tables) 0 n s s b inside (omega arith)
+
+pub lower_mix_le : (last bits n s : ℕ) (weights : WeightLists) (tables : TableLists) (b : Bracket) → AreSoundWeights last weights → IsWordTable last n tables.low
+    → s < n → b ≡ column_mixes last bits weights tables s → b.lower ≤ 2 ^ 62
+lower_mix_le last bits n s weights tables b sound is inside e =
+    rw e (lower_le last weights sound (column tables.low s) (λ k l. is.at_most_one k s l inside))
+
+pub upper_mix_le : (last bits s : ℕ) (weights : WeightLists) (tables : TableLists) (b : Bracket) → b ≡ column_mixes last bits weights tables s → b.upper ≤ 2 ^ 62
+upper_mix_le last bits s weights tables b e = omega (arith, ap (λ m. m.upper) e)
 
 -- ---- equal numbers
 pub positive : (a b : ℕ) → a ≡ b → 0 < b → 0 < a

@@ -1,4 +1,4 @@
--- The columns of a sound plan's tables can be mixed.
+-- The words of a sound plan's tables can be mixed.
 use Rattle.std.proofs.Common.{ℕ, zero, suc, ◌*◌, ◌≤◌, ◌<◌, Bool, true, false, length, arith}
 use Rattle.std.proofs.Math.Nat.{div-mul-le_self, le_of_mul-le-mul_right}
 use Rattle.std.specs.Prelude.{slice_index, if◌then◌else◌}
@@ -15,7 +15,7 @@ use Rattle.step_core.specs.SoundPlan.{IsSoundPlan}
 use Rattle.step_core.specs.TableLists.{TableLists}
 use Rattle.step_core.proofs.Layers.{set_word_le}
 use Rattle.step_core.proofs.PlanTableLemmas.{whole_row}
-use Rattle.session.specs.MixColumns.{IsColumn}
+use Rattle.session.specs.MixColumns.{IsWordTable}
 
 chosen_le : (is_goal is_live : Bool) (q : ℕ) → q ≤ one_word → (if is_goal then one_word else (if is_live then q else 0)) ≤ one_word
 chosen_le true is_live q h = omega arith
@@ -50,22 +50,21 @@ module _ (r : Rows) (whole : (s : ℕ) → s < r.states → IsWholeRow r s) (liv
       chosen_le (goals s) (live s) _
       (ceil_le _ (r.den s) one_word (whole s l).positive (products_le (high_table r live goals start k) s l (high_word_le start h k)))
 
-module _ (plan : PlanLists) (tables : TableLists) (s : ℕ) (sound : IsSoundPlan plan) (are : AreTablesOf plan tables)
-    (inside : s < length plan.frame.rows) where
-  pub low_column : IsColumn plan.layers tables.low s
-  low_column = record {
+module _ (plan : PlanLists) (tables : TableLists) (sound : IsSoundPlan plan) (are : AreTablesOf plan tables) where
+  pub low_words : IsWordTable plan.layers (length plan.frame.rows) tables.low
+  low_words = record {
     layers = are.low.layers;
-    states = λ k l. rw (are.low.layer k l).states inside;
-    at_most_one = λ k l.
+    states = λ k l. (are.low.layer k l).states;
+    at_most_one = λ k s l inside.
         rw ((are.low.layer k l).words s inside)
         (low_word_le (frame_rows plan.frame.rows) (λ t i. whole_row plan.frame t sound.frame i) _ _ k s inside);
   }
 
-  pub high_column : IsColumn plan.layers tables.high s
-  high_column = record {
+  pub high_words : IsWordTable plan.layers (length plan.frame.rows) tables.high
+  high_words = record {
     layers = are.high.layers;
-    states = λ k l. rw (are.high.layer k l).states inside;
-    at_most_one = λ k l.
+    states = λ k l. (are.high.layer k l).states;
+    at_most_one = λ k s l inside.
         rw ((are.high.layer k l).words s inside)
         (high_word_le (frame_rows plan.frame.rows) (λ t i. whole_row plan.frame t sound.frame i) _ _ (slice_index plan.start_upper)
         (λ t i. rw (sound.start t i) (set_word_le _)) k s inside);

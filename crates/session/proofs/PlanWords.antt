@@ -1,5 +1,5 @@
 -- The mixes of a plan's tables are the words of the until.
-use Rattle.std.proofs.Common.{◌≡◌, ℕ, ◌<◌, ◌≤◌, Bool, true, false, cond, refl, sym, ap, ◌∙◌, length, arith}
+use Rattle.std.proofs.Common.{◌≡◌, ℕ, ◌<◌, ◌≤◌, Bool, true, cond, sym, ap, ◌∙◌, length, arith}
 use Rattle.std.specs.Prelude.{slice_index}
 use Rattle.ctmc_semantics.specs.Chain.{Chain}
 use Rattle.ctmc_semantics.specs.Fraction.{Fraction}
@@ -9,8 +9,7 @@ use Rattle.ctmc_semantics.specs.Rows.{rows_of}
 use Rattle.ctmc_semantics.specs.Table.{holds_at}
 use Rattle.ctmc_semantics.specs.Uniformised.{uniform_rate, uniformised}
 use Rattle.ctmc_semantics.specs.Weights.{low_weight, high_weight}
-use Rattle.ctmc_semantics.specs.WordBracket.{WordBracket, settle, until_words}
-use Rattle.std.proofs.lemmas.Bool.{false≢true}
+use Rattle.ctmc_semantics.specs.WordBracket.{settle, until_words}
 use Rattle.step_core.specs.WeightLists.{WeightLists}
 use Rattle.step_core.specs.declared.mix.Mix.TheVariants.{Poisson}
 use Rattle.ctmc_semantics.proofs.MixNarrow.{mix_low_reads, mix_high_reads}
@@ -19,18 +18,11 @@ use Rattle.step_core.specs.PlanTables.{AreTablesOf, layer_at}
 use Rattle.step_core.specs.FrameRows.{frame_rows}
 use Rattle.step_core.specs.SoundPlan.{starts_at_one}
 use Rattle.step_core.specs.TableLists.{TableLists}
+use Rattle.step_core.specs.declared.bracket.Bracket.{Bracket}
+use Rattle.session.specs.MixColumns.{column_mixes}
 use Rattle.session.specs.UntilAnswer.{every_state, until_bits, state_words}
 use Rattle.session.specs.UntilPlan.{IsUntilPlan}
 use Rattle.session.proofs.SameTables.{low_of_rows, high_of_rows}
-
--- ---- the settled words of a state off the goal, and at it
-off_goal : (l u : ℕ) (g : Bool) (w : WordBracket) → g ≡ false → l ≡ w.lower → u ≡ w.upper → record { lower = l; upper = u } ≡ settle g true w
-off_goal l u true w e p q = absurd (false≢true (sym e))
-off_goal l u false w e p q = ap (λ z. record { lower = z; upper = u }) p ∙ ap (λ z. record { lower = w.lower; upper = z }) q
-
-on_goal : (g : Bool) (w : WordBracket) → g ≡ true → record { lower = one_word; upper = one_word } ≡ settle g true w
-on_goal true w e = refl
-on_goal false w e = absurd (false≢true e)
 
 module _ (chain : Chain) (load : Fraction) (goal : ℕ → Bool) (plan : PlanLists) (tables : TableLists)
     (is : IsUntilPlan chain load goal plan) (of_plan : AreTablesOf plan tables) (s : ℕ) (inside : s < chain.states) where
@@ -66,7 +58,7 @@ module _ (chain : Chain) (load : Fraction) (goal : ℕ → Bool) (plan : PlanLis
       (holds_at plan.frame.sets.goal_may) goal (λ t m. is.live_may t (below t m)) (λ t m. is.goal_may t (below t m))
       (slice_index plan.start_upper) (set_words goal) start_is k s here
 
-  pub lower_mix : mix_low plan.layers (slice_index is.weights.low) (slice_index is.weights.high) (λ k. slice_index (layer_at tables.low k) s)
+  lower_mix : mix_low plan.layers (slice_index is.weights.low) (slice_index is.weights.high) (λ k. slice_index (layer_at tables.low k) s)
       ≡ (until_words (rows_of (uniformised chain)) load until_bits every_state goal every_state goal s).lower
   lower_mix =
       mix_low_reads plan.layers (slice_index is.weights.low) (slice_index is.weights.high) (λ k. slice_index (layer_at tables.low k) s)
@@ -74,7 +66,7 @@ module _ (chain : Chain) (load : Fraction) (goal : ℕ → Bool) (plan : PlanLis
       is.fits.weights_of.low is.fits.weights_of.high low_word
       ∙ ap (λ n. mix_low n (low_weight load) (high_weight load) (λ k. low_table (rows_of (uniformised chain)) every_state goal k s)) is.fits.last_layer
 
-  pub upper_mix : mix_high plan.layers until_bits (slice_index is.weights.low) (slice_index is.weights.high) (λ k. slice_index (layer_at tables.high k) s)
+  upper_mix : mix_high plan.layers until_bits (slice_index is.weights.low) (slice_index is.weights.high) (λ k. slice_index (layer_at tables.high k) s)
       ≡ (until_words (rows_of (uniformised chain)) load until_bits every_state goal every_state goal s).upper
   upper_mix =
       mix_high_reads plan.layers until_bits (slice_index is.weights.low) (slice_index is.weights.high) (λ k. slice_index (layer_at tables.high k) s)
@@ -82,18 +74,14 @@ module _ (chain : Chain) (load : Fraction) (goal : ℕ → Bool) (plan : PlanLis
       is.fits.weights_of.low is.fits.weights_of.high high_word
       ∙ ap (λ n. mix_high n until_bits (low_weight load) (high_weight load) (λ k. high_table (rows_of (uniformised chain)) every_state goal (set_words goal) k s)) is.fits.last_layer
 
-  same_weights : (weights other : WeightLists) (bits : ℕ) → Poisson weights bits ≡ Poisson other bits → weights ≡ other
-  same_weights weights other bits e = cc
+  same_weights : (weights other : WeightLists) (m n : ℕ) → Poisson weights m ≡ Poisson other n → weights ≡ other
+  same_weights weights other m n e = cc
 
-  pub mixed_words : (weights : WeightLists) → plan.mix ≡ Poisson weights until_bits → goal s ≡ false → (lower upper : ℕ)
-      → lower ≡ mix_low plan.layers (slice_index weights.low) (slice_index weights.high) (λ k. slice_index (layer_at tables.low k) s)
-      → upper ≡ mix_high plan.layers until_bits (slice_index weights.low) (slice_index weights.high) (λ k. slice_index (layer_at tables.high k) s)
-      → record { lower = lower; upper = upper } ≡ state_words chain load goal s
-  mixed_words weights mix outside lower upper e f =
-      let same : weights ≡ is.weights = same_weights weights is.weights until_bits (sym mix ∙ is.is_mix) in
-      off_goal lower upper (goal s) _ outside
-      (e ∙ ap (λ w. mix_low plan.layers (slice_index w.low) (slice_index w.high) (λ k. slice_index (layer_at tables.low k) s)) same ∙ lower_mix)
-      (f ∙ ap (λ w. mix_high plan.layers until_bits (slice_index w.low) (slice_index w.high) (λ k. slice_index (layer_at tables.high k) s)) same ∙ upper_mix)
-
-  pub goal_words : goal s ≡ true → record { lower = one_word; upper = one_word } ≡ state_words chain load goal s
-  goal_words e = on_goal (goal s) _ e
+  pub settled_words : (weights : WeightLists) (bits : ℕ) → plan.mix ≡ Poisson weights bits → (b : Bracket) → b ≡ column_mixes plan.layers until_bits weights tables s
+      → settle (goal s) true (record { lower = b.lower; upper = b.upper }) ≡ state_words chain load goal s
+  settled_words weights bits mix b e =
+      let same : weights ≡ is.weights = same_weights weights is.weights bits until_bits (sym mix ∙ is.is_mix) in
+      let mixed : b ≡ column_mixes plan.layers until_bits is.weights tables s = e ∙ ap (λ w. column_mixes plan.layers until_bits w tables s) same in
+      ap (λ l. settle (goal s) true (record { lower = l; upper = b.upper })) (ap (λ m. m.lower) mixed ∙ lower_mix)
+      ∙ ap (λ u. settle (goal s) true (record { lower = (until_words (rows_of (uniformised chain)) load until_bits every_state goal every_state goal s).lower; upper = u }))
+      (ap (λ m. m.upper) mixed ∙ upper_mix)

@@ -1,23 +1,51 @@
--- What the mix of a state's columns needs.
-use Rattle.std.specs.Prelude.{◌≡◌, ℕ, suc, ◌<◌, ◌≤◌, ◌/◌, ◌^◌, List, length, slice_index}
+-- What the mix of the states' columns needs, and what it is.
+use Rattle.std.specs.Prelude.{◌≡◌, ℕ, suc, ◌<◌, ◌≤◌, ◌*◌, ◌/◌, ◌^◌, List, length, map, slice_index}
 use Rattle.std.specs.Int.{div_ceil}
+use Rattle.std.specs.List.{range_with_len}
+use Rattle.ctmc_semantics.specs.Mix.{mix_low, mix_high}
 use Rattle.ctmc_semantics.specs.RoundedTables.{one_word}
 use Rattle.ctmc_semantics.specs.Sum.{sum_below}
 use Rattle.step_core.specs.PlanTables.{layer_at}
+use Rattle.step_core.specs.TableLists.{TableLists}
 use Rattle.step_core.specs.WeightLists.{WeightLists}
+use Rattle.step_core.specs.declared.bracket.Bracket.{Bracket}
 use Rattle.session.specs.declared.mix_columns.WeightSums.{WeightSums}
 
 -- the state's word after each number of jumps
 abbrev pub column : List (List ℕ) → ℕ → ℕ → ℕ
 column table state k = slice_index (layer_at table k) state
 
--- the table has a word of the state for 0 to `last` jumps, and none is above 1
-pub record IsColumn (last : ℕ) (table : List (List ℕ)) (state : ℕ) : Type 0 where
+-- the table has a word of each of the n states for 0 to `last` jumps, and none is above 1
+pub record IsWordTable (last n : ℕ) (table : List (List ℕ)) : Type 0 where
   pub layers : length table ≡ suc last
-  pub states : (k : ℕ) → k ≤ last → state < length (layer_at table k)
-  pub at_most_one : (k : ℕ) → k ≤ last → column table state k ≤ one_word
+  pub states : (k : ℕ) → k ≤ last → length (layer_at table k) ≡ n
+  pub at_most_one : (k s : ℕ) → k ≤ last → s < n → column table s k ≤ one_word
+
+-- the sum of the weighted words of the first n layers, each rounded down to units of `2^14`
+abbrev pub floor_sum : ℕ → List ℕ → (ℕ → ℕ) → ℕ
+floor_sum n weights word = sum_below n (λ k. slice_index weights k * word k / 2 ^ 14)
+
+-- the sum of the weighted words of the first n layers, each rounded up to units of `2^14`
+abbrev pub ceiling_sum : ℕ → List ℕ → (ℕ → ℕ) → ℕ
+ceiling_sum n weights word = sum_below n (λ k. div_ceil (slice_index weights k * word k) (2 ^ 14))
+
+-- the list has the sum of each of the n states
+pub record HasSums (n : ℕ) (sum : ℕ → ℕ) (sums : List ℕ) : Type 0 where
+  pub states : length sums ≡ n
+  pub values : (s : ℕ) → s < n → slice_index sums s ≡ sum s
 
 -- the sums are those of the weights of 0 to `last` jumps, in units of `2^14` words
 pub record AreSumsOf (last : ℕ) (weights : WeightLists) (sums : WeightSums) : Type 0 where
   pub low : sums.low ≡ sum_below (suc last) (slice_index weights.low) / 2 ^ 14
   pub high : sums.high ≡ div_ceil (sum_below (suc last) (slice_index weights.high)) (2 ^ 14)
+
+-- the state's bracket: the mix of its lower words, and that of its upper ones
+abbrev pub column_mixes : ℕ → ℕ → WeightLists → TableLists → ℕ → Bracket
+column_mixes last bits weights tables s = record {
+  lower = mix_low last (slice_index weights.low) (slice_index weights.high) (column tables.low s);
+  upper = mix_high last bits (slice_index weights.low) (slice_index weights.high) (column tables.high s);
+}
+
+-- the brackets of the first n states, in their order
+abbrev pub first_mixes : ℕ → ℕ → WeightLists → TableLists → ℕ → List Bracket
+first_mixes last bits weights tables n = map (column_mixes last bits weights tables) (range_with_len 0 n)

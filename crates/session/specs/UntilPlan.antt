@@ -11,9 +11,8 @@ use Rattle.step_core.specs.PlanLists.{PlanLists}
 use Rattle.step_core.specs.PlanLoad.{FitsPoisson}
 use Rattle.step_core.specs.SoundPlan.{IsSoundPlan}
 use Rattle.step_core.specs.WeightLists.{WeightLists}
-use Rattle.step_core.specs.declared.bracket.Bracket.{Bracket}
 use Rattle.step_core.specs.declared.mix.Mix.TheVariants.{Poisson}
-use Rattle.session.specs.UntilAnswer.{until_bits, state_words}
+use Rattle.session.specs.UntilAnswer.{until_bits}
 use Rattle.session.specs.declared.uniformise.Refusal.{Refusal}
 use Rattle.session.specs.declared.uniformise.Refusal.TheVariants.{TooLong, TooLarge}
 
@@ -47,9 +46,3 @@ pub record IsUntilPlan (chain : Chain) (load : Fraction) (goal : ℕ → Bool) (
   pub weights : WeightLists
   pub is_mix : plan.mix ≡ Poisson weights until_bits
   pub fits : FitsPoisson load plan.layers weights until_bits
-
--- the bracket is that of the state's words, whatever chain, load and goal the plan is for
-abbrev pub IsStateBracket : PlanLists → ℕ → Bracket → Type 0
-IsStateBracket plan s bracket =
-    (chain : Chain) (load : Fraction) (goal : ℕ → Bool) → IsUntilPlan chain load goal plan → s < chain.states
-    → record { lower = bracket.lower; upper = bracket.upper } ≡ state_words chain load goal s

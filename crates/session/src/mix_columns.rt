@@ -1,12 +1,14 @@
-// The mix of a state's columns: the average of its words over the numbers of jumps, by the weights.
-ghost use Rattle.std.specs.Prelude.{◌≡◌, ℕ, suc, ◌*◌, ◌/◌, ◌^◌, ◌<◌, ◌≤◌, length, map, slice_index};
+// The mix of each state's columns: the average of its words over the numbers of jumps, by the weights.
+//
+// The sums of all states grow side by side, a layer at a time, so that the words are read in their order.
+ghost use Rattle.std.specs.Prelude.{◌≡◌, ℕ, suc, ◌+◌, ◌-◌, ◌*◌, ◌/◌, ◌^◌, ◌<◌, ◌≤◌, min, length, map, slice_index, EachIndex, IfOk};
 ghost use Rattle.std.specs.Int.{div_ceil};
-ghost use Rattle.ctmc_semantics.specs.Mix.{mix_low, mix_high};
 ghost use Rattle.ctmc_semantics.specs.Sum.{sum_below};
-ghost use Rattle.session.specs.MixColumns.{column, IsColumn, AreSumsOf};
+ghost use Rattle.session.specs.MixColumns.{column, floor_sum, ceiling_sum, HasSums, IsWordTable, AreSumsOf, first_mixes};
 ghost use Rattle.step_core.specs.SoundPlan.{AreSoundWeights, IsSoundPoisson};
 
 use round_out::ONE;
+use std::alloc::{AllocError, Global};
 use step_core::{Bracket, Tables, Weights};
 
 /// The sums of the low and of the high weights, which the mixes of all states share.
@@ -45,64 +47,123 @@ fn sum(weights: &[u64], last: usize) -> u128
     sum
 }
 
-// The sum of a state's weighted words, each rounded down to units of 2^14.
-fn weighted_floor(weights: &[u64], table: &[Vec<u64>], last: usize, state: usize) -> u128
-    requires layers { length weights.now ≡ suc last }
-    requires few { last ≤ 16384 }
-    requires at_most_one { (k : ℕ) → k ≤ last → slice_index weights.now k ≤ ONE }
-    requires column { IsColumn last (map (λ layer. layer.items) table.now) state }
-    ensures value { result ≡ sum_below (suc last)
-        (λ k. slice_index weights.now k * column (map (λ layer. layer.items) table.now) state k / 2 ^ 14) }
-    ensures small { result ≤ 16385 * 2 ^ 110 }
+// Adds a layer to the states' sums: each word times the weight, rounded down to units of 2^14.
+fn add_floors(sums: &mut [u128], weight: u64, words: &[u64])
+    requires states { length sums.old ≡ length words.now }
+    requires weight { weight ≤ ONE }
+    requires words { EachIndex words.now (λ s. slice_index words.now s ≤ ONE) }
+    requires room { EachIndex sums.old (λ s. slice_index sums.old s ≤ 16384 * 2 ^ 110) }
+    ensures { EachIndex sums.new (λ s. slice_index sums.new s
+        ≡ slice_index sums.old s + weight * slice_index words.now s / 2 ^ 14) }
 {
-    let mut sum: u128 = 0;
-    for layer in 0..last + 1 {
-        let product = u128::from(weights[layer]) * u128::from(table[layer][state]);
-        sum += product >> 14;
+    for state in 0..words.len() {
+        let product = u128::from(weight) * u128::from(words[state]);
+        sums[state] += product >> 14;
     }
-    sum
 }
 
-// The sum of a state's weighted words, each rounded up to units of 2^14.
-fn weighted_ceiling(weights: &[u64], table: &[Vec<u64>], last: usize, state: usize) -> u128
-    requires layers { length weights.now ≡ suc last }
-    requires few { last ≤ 16384 }
-    requires at_most_one { (k : ℕ) → k ≤ last → slice_index weights.now k ≤ ONE }
-    requires column { IsColumn last (map (λ layer. layer.items) table.now) state }
-    ensures value { result ≡ sum_below (suc last)
-        (λ k. div_ceil (slice_index weights.now k * column (map (λ layer. layer.items) table.now) state k) (2 ^ 14)) }
-    ensures small { result ≤ 16385 * 2 ^ 110 }
+// Adds a layer to the states' sums: each word times the weight, rounded up to units of 2^14.
+fn add_ceilings(sums: &mut [u128], weight: u64, words: &[u64])
+    requires states { length sums.old ≡ length words.now }
+    requires weight { weight ≤ ONE }
+    requires words { EachIndex words.now (λ s. slice_index words.now s ≤ ONE) }
+    requires room { EachIndex sums.old (λ s. slice_index sums.old s ≤ 16384 * 2 ^ 110) }
+    ensures { EachIndex sums.new (λ s. slice_index sums.new s
+        ≡ slice_index sums.old s + div_ceil (weight * slice_index words.now s) (2 ^ 14)) }
 {
-    let mut sum: u128 = 0;
-    for layer in 0..last + 1 {
-        let product = u128::from(weights[layer]) * u128::from(table[layer][state]);
-        sum += product.div_ceil(1 << 14);
+    for state in 0..words.len() {
+        let product = u128::from(weight) * u128::from(words[state]);
+        sums[state] += product.div_ceil(1 << 14);
     }
-    sum
 }
 
-/// The bracket of a state: the mix of its lower and of its upper words.
-pub(crate) fn mixed_bracket(
-    weights: &Weights,
-    sums: WeightSums,
+// For each state the sum of its weighted words, each rounded down to units of 2^14.
+fn floor_sums(
+    alloc: Global,
+    weights: &[u64],
+    table: &[Vec<u64>],
     last: usize,
-    bits: u32,
-    tables: &Tables,
-    state: usize,
-) -> Bracket
-    requires sound { IsSoundPoisson last weights.now bits }
+    states: usize,
+) -> Result<Vec<u128>, AllocError>
+    requires layers { length weights.now ≡ suc last }
     requires few { last ≤ 16384 }
-    requires sums { AreSumsOf last weights.now sums }
-    requires low { IsColumn last tables.now.low state }
-    requires high { IsColumn last tables.now.high state }
-    ensures lower { result.lower ≡ mix_low last (slice_index weights.now.low) (slice_index weights.now.high) (column tables.now.low state) }
-    ensures upper { result.upper ≡ mix_high last bits (slice_index weights.now.low) (slice_index weights.now.high) (column tables.now.high state) }
+    requires at_most_one { (k : ℕ) → k ≤ last → slice_index weights.now k ≤ ONE }
+    requires words { IsWordTable last states (map (λ layer. layer.items) table.now) }
+    ensures { IfOk result (λ sums. HasSums states
+        (λ s. floor_sum (suc last) weights.now (column (map (λ layer. layer.items) table.now) s)) sums.items) }
 {
-    let low = weighted_floor(&weights.low, &tables.low, last, state);
-    let high = weighted_ceiling(&weights.high, &tables.high, last, state);
+    let mut sums = vec![in alloc; 0u128; states]?;
+    for layer in 0..last + 1 {
+        add_floors(&mut sums, weights[layer], &table[layer]);
+    }
+    Ok(sums)
+}
+
+// For each state the sum of its weighted words, each rounded up to units of 2^14.
+fn ceiling_sums(
+    alloc: Global,
+    weights: &[u64],
+    table: &[Vec<u64>],
+    last: usize,
+    states: usize,
+) -> Result<Vec<u128>, AllocError>
+    requires layers { length weights.now ≡ suc last }
+    requires few { last ≤ 16384 }
+    requires at_most_one { (k : ℕ) → k ≤ last → slice_index weights.now k ≤ ONE }
+    requires words { IsWordTable last states (map (λ layer. layer.items) table.now) }
+    ensures { IfOk result (λ sums. HasSums states
+        (λ s. ceiling_sum (suc last) weights.now (column (map (λ layer. layer.items) table.now) s)) sums.items) }
+{
+    let mut sums = vec![in alloc; 0u128; states]?;
+    for layer in 0..last + 1 {
+        add_ceilings(&mut sums, weights[layer], &table[layer]);
+    }
+    Ok(sums)
+}
+
+// The bracket of a state's sums over those of the weights, and 2^-bits more for what lies past the last layer.
+fn quotient_bracket(low: u128, high: u128, sums: WeightSums, bits: u32) -> Bracket
+    requires low_weights { 0 < sums.low }
+    requires high_weights { 0 < sums.high }
+    requires at_most_one { low / sums.high ≤ ONE }
+    requires small { high ≤ 16385 * 2 ^ 110 }
+    requires bits { bits ≤ 48 }
+    ensures lower { result.lower ≡ low / sums.high }
+    ensures upper { result.upper ≡ min ONE (div_ceil high sums.low + 2 ^ (62 - bits)) }
+{
     let upper = high.div_ceil(u128::from(sums.low)) + (1u128 << (62 - bits));
     Bracket {
         lower: (low / u128::from(sums.high)) as u64,
         upper: upper.min(u128::from(ONE)) as u64,
     }
 }
+
+/// The brackets of all states: for each the mix of its lower and of its upper words.
+///
+/// The only error is want of memory.
+pub(crate) fn mixed_brackets(
+    alloc: Global,
+    weights: &Weights,
+    tables: &Tables,
+    last: usize,
+    bits: u32,
+    states: usize,
+) -> Result<Vec<Bracket>, AllocError>
+    requires sound { IsSoundPoisson last weights.now bits }
+    requires few { last ≤ 16384 }
+    requires low { IsWordTable last states tables.now.low }
+    requires high { IsWordTable last states tables.now.high }
+    ensures { IfOk result (λ brackets. brackets.items ≡ first_mixes last bits weights.now tables.now states) }
+{
+    let sums = weight_sums(weights, last);
+    let low = floor_sums(alloc, &weights.low, &tables.low, last, states)?;
+    let high = ceiling_sums(alloc, &weights.high, &tables.high, last, states)?;
+    let mut brackets = Vec::with_capacity(alloc, states)?;
+    for state in 0..states {
+        brackets.push(quotient_bracket(low[state], high[state], sums, bits))?;
+    }
+    Ok(brackets)
+}
+
+#[cfg(test)]
+mod tests;
