@@ -5,3 +5,4 @@ pub mod DigitRuns
 pub mod Grammar
 pub mod Values
 pub mod CanonicalTexts
+pub mod NumberOrNot

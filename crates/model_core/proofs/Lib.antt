@@ -3,5 +3,4 @@ pub mod ChainSums
 pub mod Rows
 pub mod Order
 pub mod ModelLemmas
-pub mod NameTests
 pub mod RateSearch

@@ -1,6 +1,6 @@
 pub mod Pairs
-pub mod Name
 pub mod Transitions
 pub mod Files
 pub mod Model
 pub mod Laws
+pub mod StateNumber

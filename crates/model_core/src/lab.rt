@@ -2,8 +2,8 @@
 ghost use Rattle.std.specs.Prelude.{◌≡◌};
 ghost use Rattle.model_core.specs.Files.{LabLists, IsLab};
 
-use crate::Name;
 use std::marker::Model;
+use text_lines::Name;
 
 /// Labels: at most 64 names, and for each state a word of marks, where bit j says that the state has label j.
 #[derive(Debug, Drop)]

@@ -4,7 +4,6 @@
 mod lab;
 mod laws;
 mod model;
-mod name;
 mod rate;
 mod rew;
 #[cfg(test)]
@@ -14,7 +13,6 @@ mod tra;
 pub use lab::Lab;
 pub use laws::{exit_rate_is_exit_sum, order_makes_no_other_chain, rate_into_is_row_sum};
 pub use model::Model;
-pub use name::{Name, is_name};
 pub use rate::Rate;
 pub use rew::Rew;
 pub use tra::Tra;

@@ -1,5 +1,5 @@
 // A model, and what can be asked of it.
-ghost use Rattle.std.specs.Prelude.{◌≡◌, ℕ, ◌+◌, ◌^◌, ◌<◌, ◌≤◌, Bool, length, map, sum_by, All, IfOk, IsPermutation};
+ghost use Rattle.std.specs.Prelude.{◌≡◌, ℕ, ◌+◌, ◌^◌, ◌<◌, ◌≤◌, Bool, length, map, sum_by, slice_index, All, IfOk, IfSome, IsSome, IsTrue, ◌↔◌, MatchOption, IsPermutation};
 ghost use Rattle.std.specs.Option.{ForSome};
 ghost use Rattle.std.specs.List.Sorted.{IsNonDecreasingBy, IsStrictlyIncreasing};
 ghost use Rattle.ctmc_semantics.specs.Chain.{exit_rate};
@@ -10,9 +10,10 @@ ghost use Rattle.model_core.specs.Files.{IsTransition};
 ghost use Rattle.model_core.specs.Model.{ModelLists, IsModel, IsBuiltOf, HasRowStarts, has_label};
 
 use crate::rate::pair_number;
-use crate::{Lab, Name, Rate, Rew, Tra};
+use crate::{Lab, Rate, Rew, Tra};
 use std::alloc::{AllocError, Global};
 use std::marker;
+use text_lines::Name;
 
 /// A chain with labels and perhaps rewards. States are numbered from 0, and so are labels. (Labelled chains: Baier,
 /// Haverkort, Hermanns, Katoen, "Model-checking algorithms for continuous-time Markov chains", IEEE TSE 29(6), 2003,
@@ -130,6 +131,38 @@ impl Model {
         ensures { result ≡ has_label self.now.marks label s }
     {
         (self.marks[s as usize] >> label) & 1 == 1
+    }
+
+    /// Whether the states have rewards.
+    pub fn has_rewards(&self) -> bool
+        ensures { IsTrue result ↔ IsSome self.now.rewards }
+    {
+        self.rew.is_some()
+    }
+
+    /// The reward that a state gives for each unit of time, in whole numbers of the rewards' scale.
+    pub fn reward(&self, s: u32) -> u64
+        requires rewards { IsSome self.now.rewards }
+        requires state { s < self.now.n }
+        ensures value { IfSome self.now.rewards (λ rew. result ≡ slice_index rew.rewards s) }
+        ensures bound { result < 2 ^ 63 }
+    {
+        match &self.rew {
+            Some(rew) => rew.reward(s as usize),
+            None => 0,
+        }
+    }
+
+    /// How many decimals the rewards have: with scale e a reward q stands for `q / 10^e` for each unit of time. It is 0
+    /// where there are none.
+    pub fn reward_scale(&self) -> u32
+        ensures value { MatchOption self.now.rewards (result ≡ 0) (λ rew. result ≡ rew.scale) }
+        ensures few { result ≤ 18 }
+    {
+        match &self.rew {
+            Some(rew) => rew.scale,
+            None => 0,
+        }
     }
 }
 

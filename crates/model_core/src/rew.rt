@@ -1,5 +1,5 @@
 // The states' rewards.
-ghost use Rattle.std.specs.Prelude.{◌≡◌};
+ghost use Rattle.std.specs.Prelude.{◌≡◌, ◌<◌, ◌^◌, length, slice_index};
 ghost use Rattle.model_core.specs.Files.{RewLists, IsRew};
 
 use std::marker::Model;
@@ -7,7 +7,7 @@ use std::marker::Model;
 /// Rewards, one for each state: with scale e a reward q stands for `q / 10^e` for each unit of time in the state.
 #[derive(Debug, Drop)]
 pub struct Rew {
-    scale: u32,
+    pub(crate) scale: u32,
     rewards: Vec<u64>,
 }
 
@@ -26,5 +26,14 @@ impl Rew {
         ensures { result ≡ record { scale = scale; rewards = rewards.items } }
     {
         Rew { scale, rewards }
+    }
+
+    // The reward of a state.
+    pub(crate) fn reward(&self, s: usize) -> u64
+        requires { s < length self.now.rewards }
+        ensures value { result ≡ slice_index self.now.rewards s }
+        ensures bound { result < 2 ^ 63 }
+    {
+        self.rewards[s]
     }
 }

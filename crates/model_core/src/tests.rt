@@ -1,8 +1,9 @@
-ghost use Rattle.std.specs.Prelude.{◌≡◌, length, IfOk};
+ghost use Rattle.std.specs.Prelude.{◌≡◌, length, IfOk, IsSome};
 
 use super::*;
 use std::alloc::{AllocError, Global};
 use std::test::Fail;
+use text_lines::Name;
 
 // The first goes to the second and the third, the second to itself, the third to the first.
 fn three_states(alloc: Global) -> Result<Tra, AllocError>
@@ -52,6 +53,7 @@ fn rewards(alloc: Global) -> Result<Rew, AllocError>
 fn model(alloc: Global) -> Result<Model, AllocError>
     ensures states { IfOk result (λ model. model.n ≡ 3) }
     ensures labels { IfOk result (λ model. length model.names ≡ 2) }
+    ensures rewards { IfOk result (λ model. IsSome model.rewards) }
 {
     let rewards = rewards(alloc)?;
     Model::build(
@@ -121,14 +123,16 @@ fn a_model_has_its_labels(rt: HostRuntime) -> Result<(), Fail> {
 }
 
 #[test]
-fn names_are_told_from_other_words(rt: HostRuntime) {
-    for word in ["a", "_", "up", "Q9_z", "ttt", "p", "Pp", "quit_", "zZ0"] {
-        assert!(rt; is_name(word.as_bytes()), "{word}");
-    }
-    for word in [
-        "", "9", "9a", "a-b", "a b", "@", "[", "`", "{", "a/", "a:", "é", "aé", "tt", "ff", "P",
-        "S", "X", "U", "quit",
-    ] {
-        assert!(rt; !is_name(word.as_bytes()), "{word}");
-    }
+fn a_model_may_have_rewards(rt: HostRuntime) -> Result<(), Fail> {
+    let alloc = rt.alloc();
+    let with = model(alloc)?;
+    assert!(rt; with.has_rewards());
+    assert_eq!(rt; with.reward_scale(), 2);
+    assert_eq!(rt; with.reward(0), 100);
+    assert_eq!(rt; with.reward(1), 0);
+    assert_eq!(rt; with.reward(2), 250);
+    let without = Model::build(alloc, three_states(alloc)?, two_labels(alloc)?, None)?;
+    assert!(rt; !without.has_rewards());
+    assert_eq!(rt; without.reward_scale(), 0);
+    Ok(())
 }

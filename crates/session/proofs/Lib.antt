@@ -2,14 +2,11 @@ pub mod Fronts
 pub mod Mixes
 pub mod Outcomes
 pub mod PlainFormulas
-pub mod PlainHeads
 pub mod PlainLabels
 pub mod PlainLabs
 pub mod PlainLines
 pub mod PlainNames
 pub mod PlainNumbers
-pub mod PlainPairs
-pub mod PlainRates
 pub mod PlainWords
 pub mod PlanColumns
 pub mod PlanOf

@@ -5,7 +5,7 @@ use Rattle.std.proofs.lemmas.List.{get_or_at, drop_more, take-append-drop, appen
 use Rattle.std.proofs.lemmas.List.Elements.{All-cons, All-head, All-tail, All-nil, All-weaker}
 use Rattle.std.proofs.lemmas.List.Sums.{AllPass-from_list_all}
 use Rattle.std.specs.List.{All, list_all}
-use Rattle.model_core.specs.Name.{begins_name, continues_name, is_reserved}
+use Rattle.text_lines.specs.Name.{begins_name, continues_name, is_reserved}
 use Rattle.session.specs.PlainText.{IsFront}
 use Rattle.session.specs.PlainLab.{IsName, name_line, declaration}
 

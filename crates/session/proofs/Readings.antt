@@ -4,6 +4,7 @@ use Rattle.std.proofs.lemmas.Bool.{false≢true}
 use Rattle.outside.specs.Shelf.{Pair, IsFile, file_limit}
 use Rattle.model_core.specs.Files.{TraLists, LabLists}
 use Rattle.model_core.specs.Model.{ModelLists, IsBuiltOf}
+use Rattle.text_lines.specs.declared.fault.FileFault.{FileFault}
 use Rattle.session.specs.Command.{FileNames}
 use Rattle.session.specs.Outcome.{TakesLab}
 use Rattle.session.specs.PlainText.{IsReading}
@@ -26,8 +27,8 @@ pub takes_lab : (files mid : Option (List Pair)) (name : List ℕ) (n : ℕ) (tr
 takes_lab files mid name n tra lab read same count is h =
     subst (λ k. TakesLab k name files lab) count (subst (λ f. TakesLab n name f lab) same (subst (IsLabReading n name mid) is h))
 
-pub model_of : (files : Option (List Pair)) (names : FileNames) (tra : TraLists) (lab : LabLists) (model : ModelLists) (read : Option TraLists)
-    → read ≡ Some tra → IsTraReading names.tra files read → TakesLab tra.n names.lab files lab → IsBuiltOf model tra lab None → IsModelOf names files model
+pub model_of : (files : Option (List Pair)) (names : FileNames) (tra : TraLists) (lab : LabLists) (model : ModelLists) (read : Result TraLists FileFault)
+    → read ≡ Ok tra → IsTraReading names.tra files read → TakesLab tra.n names.lab files lab → IsBuiltOf model tra lab None → IsModelOf names files model
 model_of files names tra lab model read is h labels built = record {
   takes = record { tra = tra; lab = lab; takes_tra = subst (IsTraReading names.tra files) is h; takes_lab = labels };
   built = built;

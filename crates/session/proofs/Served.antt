@@ -23,11 +23,11 @@ use Rattle.session.specs.Command.{FileNames, names_of}
 use Rattle.session.specs.FormulaAnswer.{FormulaAnswer, Answers, unless_refused, formula_answer, formula_horizon, formula_refusal, formula_states, IsExactAnswer}
 use Rattle.session.specs.NextAnswer.{IsExact, next_answer, next_answers}
 use Rattle.session.specs.UntilAnswer.{IsExactUntil, until_answers, until_bits, until_of, state_words, words_answer}
-use Rattle.session.specs.Outcome.{Outcome, Usage, NotBuilt, Refused, Answered, TakesFormula, IsOtherInput, IsOutcomeOf, first_name, tra_chain, lab_goal, outcome_text, outcome_status}
+use Rattle.session.specs.Outcome.{Outcome, Usage, Faulty, NotBuilt, Refused, Answered, TakesFormula, IsOtherInput, IsOutcomeOf, first_name, tra_chain, lab_goal, outcome_text, outcome_status}
 use Rattle.session.specs.Reading.{IsModelOf, IsFormulaOutcome, IsAnswerTo, AsksForReply, model_goal, outcome_of, names_before}
 use Rattle.session.specs.PlainFormula.{formula_text, comparison_of}
 use Rattle.session.specs.Report.{answer_text}
-use Rattle.session.specs.Serve.{AnswersExactly, AsksFor, IsLostOr, Says}
+use Rattle.session.specs.Serve.{AnswersExactly, AsksFor, IsLostOr, Says, names_through}
 use Rattle.session.specs.declared.plain_formula.PlainFormula.{PlainFormula}
 use Rattle.session.specs.declared.plain_formula.PlainFormula.TheVariants.{Next, Until}
 use Rattle.session.specs.declared.report.StateAnswer.{StateAnswer}
@@ -36,7 +36,10 @@ use Rattle.session.specs.declared.uniformise.Refusal.TheVariants.{TooLong, TooLa
 use Rattle.session.specs.UntilPlan.{until_refusal, plan_refusal, most_jumps, most_words}
 use Rattle.session.specs.declared.reading.Reply.{Reply}
 use Rattle.session.specs.declared.reading.Stop.{Stop}
-use Rattle.session.specs.declared.status.Part.TheVariants.{TraFile, LabFile, Formula}
+use Rattle.session.specs.declared.status.Part.TheVariants.{LabFile, Formula}
+use Rattle.session.specs.declared.status.ModelFault.{ModelFault}
+use Rattle.session.specs.declared.status.Which.{Which}
+use Rattle.session.specs.declared.status.Which.TheVariants as which
 use Rattle.session.specs.declared.status.Status.{Status}
 use Rattle.session.specs.declared.status.Status.TheVariants as status
 use Rattle.session.proofs.Outcomes.{one_outcome, same_answers, same_horizon, answered_or_refused}
@@ -72,7 +75,7 @@ module _ (names : FileNames) (files : Option (List Pair)) (before now : Option (
 
   from_formula : (outcome : Outcome) → IsFormulaOutcome model before now outcome → IsOutcomeOf (Some names) files before now outcome
   from_formula Usage h = absurd h
-  from_formula (NotBuilt TraFile) h = absurd h
+  from_formula (Faulty fault) h = absurd h
   from_formula (NotBuilt LabFile) h = absurd h
   from_formula (NotBuilt Formula) h = record { model = is.takes; other = other_input h }
   from_formula (Refused refusal) h = record {
@@ -92,7 +95,7 @@ module _ (names : FileNames) (files : Option (List Pair)) (before now : Option (
   -- after the formula both names were asked for
   both_names : (outcome : Outcome) → IsFormulaOutcome model before now outcome → names_before outcome (Some names) ≡ names.tra ∷ names.lab ∷ []
   both_names Usage h = absurd h
-  both_names (NotBuilt TraFile) h = absurd h
+  both_names (Faulty fault) h = absurd h
   both_names (NotBuilt LabFile) h = absurd h
   both_names (NotBuilt Formula) h = refl
   both_names (Refused refusal) h = refl
@@ -126,6 +129,7 @@ from_answer model before now formula (Ok reply) takes h = answered (outcome_of r
   where
     answered : (o : Outcome) → IsAnswerTo model (first_name model.names) formula o → IsFormulaOutcome model before now o
     answered Usage h = absurd h
+    answered (Faulty fault) h = absurd h
     answered (NotBuilt part) h = absurd h
     answered (Refused refusal) h = record { formula = formula; takes = takes; is_refusal = h }
     answered (Answered text horizon states) h = record { formula = formula; takes = takes; is_text = h.0; are_states = h.1 }
@@ -217,6 +221,7 @@ pub answered_exactly : (command : Option FileNames) (files : Option (List Pair))
     → outcome_status outcome ≡ status.Done → IsOutcomeOf command files left_before left_now outcome → Appends before now (outcome_text outcome)
     → IsSomeAnd command (λ names. AnswersExactly names files left_before left_now before now)
 answered_exactly command files left_before left_now before now Usage done h printed = cc
+answered_exactly command files left_before left_now before now (Faulty fault) done h printed = cc
 answered_exactly command files left_before left_now before now (NotBuilt part) done h printed = cc
 answered_exactly command files left_before left_now before now (Refused refusal) done h printed = cc
 answered_exactly None files left_before left_now before now (Answered text horizon states) done h printed = absurd h
@@ -240,6 +245,7 @@ lost_or : (s : Status) (P : Type 0) → P → IsLostOr s P
 lost_or status.Done P p = p
 lost_or status.Refused P p = p
 lost_or status.Usage P p = p
+lost_or (status.Model fault) P p = p
 lost_or (status.NotBuilt part) P p = p
 lost_or (status.Outside fault) P p = tt
 lost_or status.Memory P p = tt
@@ -269,7 +275,12 @@ all_asked (Some names) old new e = record { count = 2; appended = e }
 
 front_asked : (command : Option FileNames) (outcome : Outcome) (old new : List (List ℕ)) → new ≡ old ++ names_before outcome command → AsksFor (names_of command) old new
 front_asked command Usage old new e = record { count = 0; appended = e }
-front_asked command (NotBuilt TraFile) old new e = record { count = 1; appended = e }
+front_asked command (Faulty fault) old new e = through fault.file e
+  where
+    through : (file : Which) → new ≡ old ++ names_through file command → AsksFor (names_of command) old new
+    through which.TraFile e = record { count = 1; appended = e }
+    through which.LabFile e = all_asked command old new e
+    through which.RewFile e = all_asked command old new e
 front_asked command (NotBuilt LabFile) old new e = all_asked command old new e
 front_asked command (NotBuilt Formula) old new e = all_asked command old new e
 front_asked command (Refused refusal) old new e = all_asked command old new e

@@ -1,5 +1,6 @@
 pub mod Command
 pub mod ExitCode
+pub mod FaultText
 pub mod FormulaAnswer
 pub mod MixColumns
 pub mod NextAnswer
@@ -7,7 +8,6 @@ pub mod Outcome
 pub mod PlainFormula
 pub mod PlainLab
 pub mod PlainText
-pub mod PlainTra
 pub mod Reading
 pub mod Report
 pub mod Serve

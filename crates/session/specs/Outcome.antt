@@ -10,11 +10,18 @@ use Rattle.session.specs.Command.{FileNames, command_of}
 use Rattle.session.specs.FormulaAnswer.{Answers, Refuses, formula_answer}
 use Rattle.session.specs.PlainFormula.{IsPlainFormula, formula_text}
 use Rattle.session.specs.PlainLab.{IsPlainLab}
-use Rattle.session.specs.PlainTra.{IsPlainTra}
 use Rattle.session.specs.Report.{answer_text}
 use Rattle.session.specs.declared.plain_formula.PlainFormula.{PlainFormula}
 use Rattle.session.specs.declared.status.Part.{Part}
-use Rattle.session.specs.declared.status.Part.TheVariants.{TraFile, LabFile, Formula}
+use Rattle.session.specs.declared.status.ModelFault.{ModelFault}
+use Rattle.session.specs.declared.status.Which.{Which}
+use Rattle.session.specs.declared.status.Which.TheVariants as which
+use Rattle.session.specs.declared.status.Part.TheVariants.{LabFile, Formula}
+use Rattle.text_lines.specs.declared.fault.FileWhat.{FileWhat}
+use Rattle.text_lines.specs.declared.fault.FileWhat.TheVariants.{TooBig}
+use Rattle.tra_reader.specs.TraFault.{TraFaultAt}
+use Rattle.tra_reader.specs.TraText.{TraSays}
+use Rattle.session.specs.FaultText.{model_fault_text}
 use Rattle.session.specs.declared.status.Status.{Status}
 use Rattle.session.specs.declared.report.StateAnswer.{StateAnswer}
 use Rattle.session.specs.declared.uniformise.Refusal.{Refusal}
@@ -24,9 +31,10 @@ use Rattle.session.specs.declared.uniformise.Refusal.TheVariants.{TooLong, TooLa
 abbrev pub formulas_limit : ℕ
 formulas_limit = 1048576
 
--- what is said: the usage, that a part isn't built, why the formula is refused, or its text, horizon and answers
+-- what is said: the usage, what is wrong with a file, that a part isn't built, why the formula is refused, or its text, horizon and answers
 pub data Outcome : Type 0 where
   Usage : Outcome
+  Faulty : ModelFault → Outcome
   NotBuilt : Part → Outcome
   Refused : Refusal → Outcome
   Answered : List ℕ → Option ℕ → List StateAnswer → Outcome
@@ -36,7 +44,7 @@ pub record TakesTra (name : List ℕ) (files : Option (List Pair)) (tra : TraLis
   pub bytes : List ℕ
   pub is_file : IsFile name files bytes
   pub within : length bytes ≤ file_limit
-  pub plain : IsPlainTra bytes tra
+  pub says : TraSays bytes tra
 
 -- the file was taken whole, and stands for these labels of n states
 pub record TakesLab (n : ℕ) (name : List ℕ) (files : Option (List Pair)) (lab : LabLists) : Type 0 where
@@ -52,12 +60,31 @@ pub record TakesModel (names : FileNames) (files : Option (List Pair)) : Type 0 
   pub takes_tra : TakesTra names.tra files tra
   pub takes_lab : TakesLab tra.n names.lab files lab
 
--- the file was taken whole, and stands for no chain
-pub record TakesOtherTra (name : List ℕ) (files : Option (List Pair)) : Type 0 where
+-- the file has too many bytes, which is told at line 0
+pub record IsTooLong (name : List ℕ) (files : Option (List Pair)) (line : ℕ) (what : FileWhat) : Type 0 where
+  pub too_big : IsTooBig name files
+  pub at_no_line : line ≡ 0
+  pub told : what ≡ TooBig
+
+-- the file was taken whole, and has this fault at this line
+pub record TakesFaultyTra (name : List ℕ) (files : Option (List Pair)) (line : ℕ) (what : FileWhat) : Type 0 where
   pub bytes : List ℕ
   pub is_file : IsFile name files bytes
   pub within : length bytes ≤ file_limit
-  pub other : (tra : TraLists) → ¬ IsPlainTra bytes tra
+  pub fault : TraFaultAt bytes line what
+
+-- what is wrong with the file of the chain
+abbrev pub IsTraFaulty : List ℕ → Option (List Pair) → ℕ → FileWhat → Type 0
+IsTraFaulty name files line what = IsTooLong name files line what ⊎ TakesFaultyTra name files line what
+
+-- what is wrong with the first file that has a fault; only the file of the chain is read whole today
+abbrev pub IsFaultyAt : FileNames → Option (List Pair) → Which → ℕ → FileWhat → Type 0
+IsFaultyAt names files which.TraFile line what = IsTraFaulty names.tra files line what
+IsFaultyAt names files which.LabFile line what = ⊥
+IsFaultyAt names files which.RewFile line what = ⊥
+
+abbrev pub IsFileFaulty : FileNames → Option (List Pair) → ModelFault → Type 0
+IsFileFaulty names files fault = IsFaultyAt names files fault.file fault.line fault.what
 
 -- the file was taken whole, and stands for no labels of n states
 pub record TakesOtherLab (n : ℕ) (name : List ℕ) (files : Option (List Pair)) : Type 0 where
@@ -119,27 +146,26 @@ pub record IsRefused (names : FileNames) (files : Option (List Pair)) (before no
 abbrev pub IsOtherInput : List ℕ → Option (List ℕ) → Option (List ℕ) → Type 0
 IsOtherInput name before now = TakesTooMuch before now ⊎ TakesOtherFormula name before now
 
--- the first of the two files that isn't of the plain form, or has too many bytes
+-- the file of the labels isn't of the plain form, or has too many bytes
 abbrev pub IsFileNotBuilt : FileNames → Option (List Pair) → Part → Type 0
-IsFileNotBuilt names files TraFile = IsTooBig names.tra files ⊎ TakesOtherTra names.tra files
 IsFileNotBuilt names files LabFile =
     (tra : TraLists) × TakesTra names.tra files tra × (IsTooBig names.lab files ⊎ TakesOtherLab tra.n names.lab files)
 IsFileNotBuilt names files Formula = ⊥
 
--- both files are of the plain form, and the formulas aren't, or have too many bytes
+-- both files stand for a model, and the formulas are not of the plain form, or have too many bytes
 pub record IsFormulaNotBuilt (names : FileNames) (files : Option (List Pair)) (before now : Option (List ℕ)) : Type 0 where
   pub model : TakesModel names files
   pub other : IsOtherInput (first_name model.lab.names) before now
 
--- the first part, in the order of the files and the formulas, that isn't built; of the formulas nothing is read before
+-- the first part, in the order of the labels and the formulas, that isn't built; of the formulas nothing is read before
 abbrev pub IsNotBuilt : FileNames → Option (List Pair) → Option (List ℕ) → Option (List ℕ) → Part → Type 0
-IsNotBuilt names files before now TraFile = IsFileNotBuilt names files TraFile × Keeps before now
 IsNotBuilt names files before now LabFile = IsFileNotBuilt names files LabFile × Keeps before now
 IsNotBuilt names files before now Formula = IsFormulaNotBuilt names files before now
 
 -- what is answered to a command, or where there is none
 abbrev pub IsOutcomeOf : Option FileNames → Option (List Pair) → Option (List ℕ) → Option (List ℕ) → Outcome → Type 0
 IsOutcomeOf command files before now Usage = IsNone command × Keeps before now
+IsOutcomeOf command files before now (Faulty fault) = IsSomeAnd command (λ names. IsFileFaulty names files fault × Keeps before now)
 IsOutcomeOf command files before now (NotBuilt part) = IsSomeAnd command (λ names. IsNotBuilt names files before now part)
 IsOutcomeOf command files before now (Refused refusal) = IsSomeAnd command (λ names. IsRefused names files before now refusal)
 IsOutcomeOf command files before now (Answered formula horizon states) = IsSomeAnd command (λ names. IsAnswered names files before now formula horizon states)
@@ -152,7 +178,6 @@ abbrev pub usage_text : List ℕ
 usage_text = codes "usage: mrmc_any (ctmc M.tra M.lab | cmrm M.tra M.lab M.rew) [--workers 1..64] [--bits 8..48] [--jumps 1..16384] [--watch 0..1000] [--state 1..65536]" ++ 10 ∷ []
 
 abbrev pub not_built_text : Part → List ℕ
-not_built_text TraFile = codes "not built tra" ++ 10 ∷ []
 not_built_text LabFile = codes "not built lab" ++ 10 ∷ []
 not_built_text Formula = codes "not built formula" ++ 10 ∷ []
 
@@ -163,12 +188,14 @@ refused_text TooLarge = codes "refused line 1 TooLarge" ++ 10 ∷ []
 
 abbrev pub outcome_text : Outcome → List ℕ
 outcome_text Usage = usage_text
+outcome_text (Faulty fault) = model_fault_text fault
 outcome_text (NotBuilt part) = not_built_text part
 outcome_text (Refused refusal) = refused_text refusal
 outcome_text (Answered formula horizon states) = answer_text formula horizon states
 
 abbrev pub outcome_status : Outcome → Status
 outcome_status Usage = Status.Usage
+outcome_status (Faulty fault) = Status.Model fault
 outcome_status (NotBuilt part) = Status.NotBuilt part
 outcome_status (Refused refusal) = Status.Refused
 outcome_status (Answered formula horizon states) = Status.Done

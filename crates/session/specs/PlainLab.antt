@@ -3,7 +3,7 @@ use Rattle.std.specs.Prelude.{◌≡◌, ℕ, ◌<◌, IsTrue, ◌==◌, if◌th
 use Rattle.std.specs.List.{flat_map, list_any, range_with_len}
 use Rattle.std.specs.List.Sorted.{IsStrictlyIncreasing}
 use Rattle.model_core.specs.Files.{LabLists}
-use Rattle.model_core.specs.Name.{is_name}
+use Rattle.text_lines.specs.Name.{is_name}
 use Rattle.session.specs.PlainText.{state_then}
 
 -- a name that is allowed

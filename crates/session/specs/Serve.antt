@@ -11,10 +11,13 @@ use Rattle.session.specs.Report.{answer_text}
 use Rattle.session.specs.declared.plain_formula.PlainFormula.{PlainFormula}
 use Rattle.session.specs.declared.report.StateAnswer.{StateAnswer}
 use Rattle.session.specs.declared.status.Fault.TheVariants.{Read, Write}
-use Rattle.session.specs.declared.status.Part.TheVariants.{TraFile, LabFile, Formula}
+use Rattle.session.specs.declared.status.Part.TheVariants.{LabFile, Formula}
+use Rattle.session.specs.declared.status.ModelFault.{ModelFault}
+use Rattle.session.specs.declared.status.Which.{Which}
+use Rattle.session.specs.declared.status.Which.TheVariants as which
 use Rattle.session.specs.declared.status.Status.{Status}
 use Rattle.session.specs.declared.uniformise.Refusal.{Refusal}
-use Rattle.session.specs.declared.status.Status.TheVariants.{Done, Refused, Usage, NotBuilt, Outside, Memory}
+use Rattle.session.specs.declared.status.Status.TheVariants.{Done, Refused, Usage, Model, NotBuilt, Outside, Memory}
 
 -- all of the text is written and flushed
 pub record Says (before now : Option (List ℕ)) (flushed : ℕ) (text : List ℕ) : Type 0 where
@@ -56,12 +59,18 @@ pub record AsksFor (names : List (List ℕ)) (old new : List (List ℕ)) : Type 
   pub count : ℕ
   pub appended : new ≡ old ++ take count names
 
+-- the names up to that of a file
+abbrev pub names_through : Which → Option FileNames → List (List ℕ)
+names_through which.TraFile command = take 1 (names_of command)
+names_through which.LabFile command = names_of command
+names_through which.RewFile command = names_of command
+
 -- the names that were asked for, where all was taken that the status needs
 abbrev pub AsksBy : Status → Option FileNames → List (List ℕ) → List (List ℕ) → Type 0
 AsksBy Done command old new = new ≡ old ++ names_of command
 AsksBy Refused command old new = new ≡ old ++ names_of command
 AsksBy Usage command old new = new ≡ old
-AsksBy (NotBuilt TraFile) command old new = new ≡ old ++ take 1 (names_of command)
+AsksBy (Model fault) command old new = new ≡ old ++ names_through fault.file command
 AsksBy (NotBuilt LabFile) command old new = new ≡ old ++ names_of command
 AsksBy (NotBuilt Formula) command old new = new ≡ old ++ names_of command
 AsksBy (Outside fault) command old new = AsksFor (names_of command) old new
@@ -75,6 +84,7 @@ IsUsageOrLost Memory = Unit {0}
 IsUsageOrLost (Outside Read) = ⊥
 IsUsageOrLost Done = ⊥
 IsUsageOrLost Refused = ⊥
+IsUsageOrLost (Model fault) = ⊥
 IsUsageOrLost (NotBuilt part) = ⊥
 
 -- the answer is lost to a fault or to want of memory, or else P
@@ -84,6 +94,7 @@ IsLostOr Memory P = Unit {0}
 IsLostOr Done P = P
 IsLostOr Refused P = P
 IsLostOr Usage P = P
+IsLostOr (Model fault) P = P
 IsLostOr (NotBuilt part) P = P
 
 -- both files are there

@@ -2,12 +2,12 @@
 #![tactic(auto)]
 
 mod command;
+mod fault_line;
 mod mix_columns;
 mod nested_verdict;
 mod plain_formula;
 mod plain_lab;
 mod plain_text;
-mod plain_tra;
 mod reading;
 mod report;
 mod status;
@@ -18,7 +18,7 @@ mod uniformised_rows;
 mod until_plan;
 mod until_states;
 
-pub use status::{Fault, Part, Status};
+pub use status::{Fault, ModelFault, Part, Status, Which};
 pub use sure::serve_surely;
 pub use top::serve;
 

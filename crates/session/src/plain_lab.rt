@@ -4,8 +4,9 @@ ghost use Rattle.session.specs.PlainText.{IsFront, HasNoFront, IsTaken, IsReadin
 ghost use Rattle.session.specs.PlainLab.{IsName, name_line, declaration, label_line, AreLabelLines, marks_of, IsPlainLab};
 
 use crate::plain_text::{LINE_END, take_literal, take_state};
-use model_core::{Lab, Name, is_name};
+use model_core::Lab;
 use std::alloc::{AllocError, Global};
+use text_lines::{Name, is_name};
 
 /// The labels of `n` states for which the bytes of a plain `.lab` file stand, None where they stand for none.
 pub(crate) fn read_plain_lab(alloc: Global, bytes: &[u8], n: u32) -> Result<Option<Lab>, AllocError>

@@ -15,21 +15,23 @@ use crate::command::read_words;
 use crate::nested_verdict::check_next;
 use crate::plain_formula::{Op, PlainFormula, read_plain_formula};
 use crate::plain_lab::read_plain_lab;
-use crate::plain_tra::read_plain_tra;
 use crate::report::StateAnswer;
 use crate::uniformise::{Refusal, TimeBound, time_bound};
 use crate::until_plan::plan_until;
 use crate::until_states::check_until;
-use crate::{Part, Status};
+use crate::{ModelFault, Part, Status, Which};
 use decimal_text::Decimal;
 use model_core::{Lab, Model, Tra};
 use outside::{Files, Source, TakeFault, read_whole};
 use std::alloc::{AllocError, Global};
+use text_lines::{FileFault, FileWhat, ReadFault};
+use tra_reader::read_tra;
 
 /// What is written out.
 #[derive(Drop)]
 pub(crate) enum Reply {
     Usage,
+    Faulty(ModelFault),
     NotBuilt(Part),
     Refused(Refusal),
     Answer(Answer),
@@ -49,6 +51,7 @@ impl Reply {
     {
         match self {
             Reply::Usage => Status::Usage,
+            Reply::Faulty(fault) => Status::Model(*fault),
             Reply::NotBuilt(part) => Status::NotBuilt(*part),
             Reply::Refused(_) => Status::Refused,
             Reply::Answer(_) => Status::Done,
@@ -74,10 +77,11 @@ impl From<AllocError> for Stop {
     }
 }
 
-/// A model, or the first file that isn't of the plain form.
+/// A model, or the first file that has a fault or isn't of the plain form.
 #[derive(Drop)]
 pub(crate) enum ModelReading {
     Built(Model),
+    Faulty(ModelFault),
     NotBuilt(Part),
 }
 
@@ -106,6 +110,7 @@ pub(crate) fn read_reply<F: Files, S: Source>(
         return Ok(Reply::Usage);
     };
     match read_model(alloc, files, tra, lab)? {
+        ModelReading::Faulty(fault) => Ok(Reply::Faulty(fault)),
         ModelReading::NotBuilt(part) => Ok(Reply::NotBuilt(part)),
         ModelReading::Built(model) => answer_formula(alloc, &model, formulas),
     }
@@ -189,30 +194,43 @@ fn read_model<F: Files>(
     ensures asked { IfSome (F.files files.old) (λ _. AsksForModel (file_names tra.now lab.now) result (F.asked files.old) (F.asked files.new)) }
     ensures later { F.fault_count files.old ≤ F.fault_count files.new }
 {
-    let Some(tra) = read_tra(alloc, files, tra)? else {
-        return Ok(ModelReading::NotBuilt(Part::TraFile));
+    let tra = match take_tra(alloc, files, tra)? {
+        Ok(tra) => tra,
+        Err(fault) => return Ok(ModelReading::Faulty(ModelFault::of(Which::TraFile, fault))),
     };
-    let Some(lab) = read_lab(alloc, files, lab, tra.n())? else {
+    let Some(lab) = take_lab(alloc, files, lab, tra.n())? else {
         return Ok(ModelReading::NotBuilt(Part::LabFile));
     };
     let model = Model::build(alloc, tra, lab, None)?;
     Ok(ModelReading::Built(model))
 }
 
-fn read_tra<F: Files>(alloc: Global, files: &mut F, name: &str) -> Result<Option<Tra>, Stop>
+// The chain of a file, or what is wrong with it.
+fn take_tra<F: Files>(
+    alloc: Global,
+    files: &mut F,
+    name: &str,
+) -> Result<Result<Tra, FileFault>, Stop>
     ensures tra { IfOk result (IsTraReading name.now (F.files files.old)) }
     ensures read { IsErrOf result Stop.Read → Rose (F.fault_count files.old) (F.fault_count files.new) }
     ensures files { F.files files.new ≡ F.files files.old }
     ensures asked { IfSome (F.files files.old) (λ _. AsksForFile name.now result (F.asked files.old) (F.asked files.new)) }
     ensures later { F.fault_count files.old ≤ F.fault_count files.new }
 {
-    match take_file(alloc, files, name)? {
-        None => Ok(None),
-        Some(bytes) => Ok(read_plain_tra(alloc, &bytes)?),
+    let Some(bytes) = take_file(alloc, files, name)? else {
+        return Ok(Err(FileFault {
+            line: 0,
+            what: FileWhat::TooBig,
+        }));
+    };
+    match read_tra(alloc, &bytes) {
+        Ok(tra) => Ok(Ok(tra)),
+        Err(ReadFault::At(fault)) => Ok(Err(fault)),
+        Err(ReadFault::Memory) => Err(Stop::Memory),
     }
 }
 
-fn read_lab<F: Files>(alloc: Global, files: &mut F, name: &str, n: u32) -> Result<Option<Lab>, Stop>
+fn take_lab<F: Files>(alloc: Global, files: &mut F, name: &str, n: u32) -> Result<Option<Lab>, Stop>
     requires some { 1 ≤ n }
     requires few { n ≤ 65536 }
     ensures lab { IfOk result (IsLabReading n name.now (F.files files.old)) }

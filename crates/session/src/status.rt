@@ -1,12 +1,45 @@
 // How a command ends.
 ghost use Rattle.std.specs.Prelude.{◌≡◌};
 
+use text_lines::{FileFault, FileWhat};
+
 /// A part of the input, of which only a plain form is read today.
 #[derive(Clone, Copy, Debug, PartialEq, Eq)]
 pub enum Part {
-    TraFile,
     LabFile,
     Formula,
+}
+
+/// One of the files of a model: that of the chain, of the labels, or of the rewards. Faults are told of the first alone
+/// today.
+#[derive(Clone, Copy, Debug, PartialEq, Eq)]
+pub enum Which {
+    TraFile,
+    LabFile,
+    RewFile,
+}
+
+/// What is wrong with a file of the model, and at which of its lines, from 1; `TooBig`, more than 64 MiB, is at line 0.
+#[derive(Clone, Copy, Debug, PartialEq, Eq)]
+pub struct ModelFault {
+    pub file: Which,
+    pub line: u64,
+    pub what: FileWhat,
+}
+
+impl ModelFault {
+    // The fault of one of the files.
+    pub(crate) fn of(file: Which, fault: FileFault) -> ModelFault
+        ensures file { result.file ≡ file }
+        ensures line { result.line ≡ fault.line }
+        ensures what { result.what ≡ fault.what }
+    {
+        ModelFault {
+            file,
+            line: fault.line,
+            what: fault.what,
+        }
+    }
 }
 
 /// What of the outside failed: a file or the formulas, or the output.
@@ -26,7 +59,10 @@ pub enum Status {
     Refused,
     /// The words are no command; the usage line is written and flushed.
     Usage,
-    /// This is the first part, in the order of the files and the formulas, that isn't of the plain form, or that has
+    /// This is what is wrong with the first file that has a fault; its line is written and flushed. Nothing is read of
+    /// the formulas.
+    Model(ModelFault),
+    /// This is the first part, in the order of the labels and the formulas, that isn't of the plain form, or that has
     /// too many bytes. Its line is written and flushed.
     NotBuilt(Part),
     /// The outside failed. A front of the text is written.
@@ -46,6 +82,7 @@ impl Status {
             Status::Done => 0,
             Status::Refused => 1,
             Status::Usage => 2,
+            Status::Model(_) => 3,
             Status::Outside(_) => 4,
             Status::Memory => 5,
             Status::NotBuilt(_) => 6,

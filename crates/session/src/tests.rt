@@ -3,6 +3,7 @@ use outside::{MemFiles, MemSink, MemSource, OpenGate, SureFiles, SureSink, SureS
 use std::alloc::{AllocError, Global};
 use std::test::Fail;
 use std::thread::Threads;
+use text_lines::FileWhat;
 
 const TRA: &[u8] = b"STATES 3\nTRANSITIONS 2\n1 2 3\n1 3 7\n";
 
@@ -72,31 +73,91 @@ fn a_next_formula_is_answered_whatever_one_call_moves(rt: HostRuntime) -> Result
     Ok(())
 }
 
+// Each with its first fault; what comes after it doesn't count.
 #[test]
-fn a_chain_that_is_not_plain_is_not_built(rt: HostRuntime) -> Result<(), Fail> {
-    let texts: [&[u8]; 16] = [
-        b"",
-        b"STATE 3\nTRANSITIONS 2\n1 2 3\n1 3 7\n",
-        b"STATES 0\nTRANSITIONS 0\n",
-        b"STATES 03\nTRANSITIONS 2\n1 2 3\n1 3 7\n",
-        b"STATES 65537\nTRANSITIONS 0\n",
-        b"STATES 3\nTRANSITION 2\n1 2 3\n1 3 7\n",
-        b"STATES 3\nTRANSITIONS 1000001\n1 2 3\n1 3 7\n",
-        b"STATES 3\nTRANSITIONS 3\n1 2 3\n1 3 7\n",
-        b"STATES 3\nTRANSITIONS 1\n1 2 3\n1 3 7\n",
-        b"STATES 3\nTRANSITIONS 2\n0 2 3\n1 3 7\n",
-        b"STATES 3\nTRANSITIONS 2\n1 4 3\n1 3 7\n",
-        b"STATES 3\nTRANSITIONS 2\n1 2 0\n1 3 7\n",
-        b"STATES 3\nTRANSITIONS 2\n1 2 1000000000000\n1 3 7\n",
-        b"STATES 3\nTRANSITIONS 2\n1 2 3\n1 2 7\n",
-        b"STATES 3\nTRANSITIONS 2\n1  2 3\n1 3 7\n",
-        b"STATES 3\nTRANSITIONS 2\n1 2 3\n1 3 7",
+fn a_fault_of_the_chain_is_told_at_its_line(rt: HostRuntime) -> Result<(), Fail> {
+    let texts: [(&[u8], &[u8]); 12] = [
+        (b"", b"refused tra line 1 Header\n"),
+        (b"\n\nSTATE 3\n", b"refused tra line 3 Header\n"),
+        (b"STATES 0\n", b"refused tra line 1 StatesRange\n"),
+        (
+            b"STATES 3\r\nTRANSITIONS 1000001",
+            b"refused tra line 2 TransitionsRange\n",
+        ),
+        (
+            b"STATES 2\nTRANSITIONS 3\n1 2 1\n2 1 1\n",
+            b"refused tra line 5 Count\n",
+        ),
+        (
+            b"STATES 2\nTRANSITIONS 1\n1 2 1\n\nx\n",
+            b"refused tra line 5 Count\n",
+        ),
+        (
+            b"STATES 2\nTRANSITIONS 2\n1 2\n1 2 3\n",
+            b"refused tra line 3 Word\n",
+        ),
+        (
+            b"STATES 2\nTRANSITIONS 2\n1 3 x\n1 2 3\n",
+            b"refused tra line 3 StateRange\n",
+        ),
+        (
+            b"STATES 2\nTRANSITIONS 2\n1 2 -1\n1 2 3\n",
+            b"refused tra line 3 Number NotNumber\n",
+        ),
+        (
+            b"STATES 2\nTRANSITIONS 2\n1 2 1e-19\n1 2 3\n",
+            b"refused tra line 3 Number TooFine\n",
+        ),
+        (
+            b"STATES 2\nTRANSITIONS 2\n1 2 1\n1 2 0\n",
+            b"refused tra line 4 Repeated\n",
+        ),
+        (
+            b"STATES 3\nTRANSITIONS 2\n1 2 922337203685477580\n1 3 0.8\n",
+            b"refused tra line 4 RateRange\n",
+        ),
     ];
-    for text in texts {
+    for (text, line) in texts {
         let (status, said) = answered(&rt, (text, LAB), FORMULA, 0)?;
-        assert_eq!(rt; status, Status::NotBuilt(Part::TraFile), "at {text:?}");
-        assert_eq!(rt; said.as_slice(), b"not built tra\n".as_slice());
+        assert!(rt; matches!(status, Status::Model(_)), "at {text:?}");
+        assert_eq!(rt; said.as_slice(), line);
     }
+    let (status, _) = answered(&rt, (b"STATES 1 2", LAB), FORMULA, 0)?;
+    let fault = ModelFault {
+        file: Which::TraFile,
+        line: 1,
+        what: FileWhat::Header,
+    };
+    assert_eq!(rt; status, Status::Model(fault));
+    assert_eq!(rt; status.exit_code(), 3);
+    Ok(())
+}
+
+// CR LF, tabs, blank lines, leading zeros, decimal rates, rates of 0, and no LF at the end.
+#[test]
+fn a_chain_may_be_written_as_tools_do(rt: HostRuntime) -> Result<(), Fail> {
+    let text =
+        b"\r\nSTATES\t03\r\n\r\n  TRANSITIONS 4\r\n1 2 3e-1\r\n1 3 0.70\r\n2 1 0.000\r\n3 003 0e9";
+    for cut in [0, 1] {
+        let (status, said) = answered(&rt, (text, LAB), FORMULA, cut)?;
+        assert_eq!(rt; status, Status::Done);
+        assert_eq!(rt; said.as_slice(), ANSWER);
+    }
+    Ok(())
+}
+
+// 64 MiB and a byte.
+#[test]
+fn a_chain_of_too_many_bytes_is_refused_at_no_line(rt: HostRuntime) -> Result<(), Fail> {
+    let text = vec![in rt.alloc(); b' '; 67_108_865]?;
+    let (status, said) = answered(&rt, (&text, LAB), FORMULA, 0)?;
+    let fault = ModelFault {
+        file: Which::TraFile,
+        line: 0,
+        what: FileWhat::TooBig,
+    };
+    assert_eq!(rt; status, Status::Model(fault));
+    assert_eq!(rt; said.as_slice(), b"refused tra line 0 TooBig\n".as_slice());
     Ok(())
 }
 

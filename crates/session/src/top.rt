@@ -5,10 +5,11 @@ ghost use Rattle.outside.specs.Causes.{Rose, HasCause};
 ghost use Rattle.outside.specs.Shelf.{Pair};
 ghost use Rattle.outside.specs.Whole.{WritesFront};
 ghost use Rattle.session.specs.Command.{command_of, names_of};
-ghost use Rattle.session.specs.Outcome.{Outcome, IsOutcome, IsNotBuilt, TakesModel, outcome_text, outcome_status, usage_text, not_built_text, refused_text};
+ghost use Rattle.session.specs.Outcome.{Outcome, IsOutcome, IsFileFaulty, IsNotBuilt, TakesModel, outcome_text, outcome_status, usage_text, not_built_text, refused_text};
 ghost use Rattle.session.specs.Reading.{outcome_of, IsWritable};
 ghost use Rattle.session.specs.Serve.{Says, Settles, RefusesFormula, AnswersExactly, IsCutShort, AsksFor, AsksBy, IsUsageOrLost, IsLostOr};
 
+use crate::fault_line::write_fault;
 use crate::reading::{Reply, Stop, read_reply};
 use crate::report::write_answer;
 use crate::uniformise::Refusal;
@@ -43,6 +44,8 @@ pub fn serve<F: Files, S: Source, K: Sink, G: Gate>(
     ensures usage { result ≡ Status.Usage → IsNone (command_of (map string_bytes words.now)) × Keeps (S.left formulas.old) (S.left formulas.new) }
     ensures refused { result ≡ Status.Refused → IsSomeAnd (command_of (map string_bytes words.now)) (λ names.
         RefusesFormula names (F.files files.old) (S.left formulas.old) (S.left formulas.new)) }
+    ensures model { (fault : _) → result ≡ Status.Model fault → IsSomeAnd (command_of (map string_bytes words.now)) (λ names.
+        IsFileFaulty names (F.files files.old) fault × Keeps (S.left formulas.old) (S.left formulas.new)) }
     ensures not_built { (part : _) → result ≡ Status.NotBuilt part → IsSomeAnd (command_of (map string_bytes words.now)) (λ names.
         IsNotBuilt names (F.files files.old) (S.left formulas.old) (S.left formulas.new) part) }
 
@@ -106,6 +109,7 @@ fn write_reply<K: Sink>(alloc: Global, out: &mut K, reply: &Reply) -> Result<(),
 {
     match reply {
         Reply::Usage => write_whole(out, USAGE),
+        Reply::Faulty(fault) => write_fault(alloc, *fault, out),
         Reply::NotBuilt(part) => write_whole(out, not_built(*part)),
         Reply::Refused(refusal) => write_whole(out, refused(*refusal)),
         Reply::Answer(answer) => write_answer(
@@ -122,7 +126,6 @@ fn not_built(part: Part) -> &'static [u8]
     ensures { result.now ≡ not_built_text part }
 {
     match part {
-        Part::TraFile => b"not built tra\n",
         Part::LabFile => b"not built lab\n",
         Part::Formula => b"not built formula\n",
     }

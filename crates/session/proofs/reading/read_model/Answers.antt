@@ -10,8 +10,8 @@ returns-in_err-lab-clause-asked g c =
 
 pub build-requires-clause-marks : goal.build-requires-clause-marks
 build-requires-clause-marks g c =
-    let lab = takes_lab _ _ c.args.lab.now _ c.in-Some.tra c.in-Some-2.lab _ c.in_ok-tra.ensures.files c.n.ensures.value c.in-Some-2.is c.in_ok-lab.ensures.lab in
-    plain_lab_marks _ lab.bytes c.in-Some-2.lab lab.plain
+    let lab = takes_lab _ _ c.args.lab.now _ c.in-Ok.tra c.in-Some.lab _ c.in_ok-tra.ensures.files c.n.ensures.value c.in-Some.is c.in_ok-lab.ensures.lab in
+    plain_lab_marks _ lab.bytes c.in-Some.lab lab.plain
 
 pub returns-in_err-model-clause-asked : goal.returns-in_err-model-clause-asked
 returns-in_err-model-clause-asked g c =
@@ -21,8 +21,8 @@ returns-in_err-model-clause-asked g c =
 
 pub returns-clause-model : goal.returns-clause-model
 returns-clause-model g c =
-    model_of _ _ c.in-Some.tra c.in-Some-2.lab _ _ c.in-Some.is c.in_ok-tra.ensures.tra
-    (takes_lab _ _ c.args.lab.now _ c.in-Some.tra c.in-Some-2.lab _ c.in_ok-tra.ensures.files c.n.ensures.value c.in-Some-2.is c.in_ok-lab.ensures.lab)
+    model_of _ _ c.in-Ok.tra c.in-Some.lab _ _ c.in-Ok.is c.in_ok-tra.ensures.tra
+    (takes_lab _ _ c.args.lab.now _ c.in-Ok.tra c.in-Some.lab _ c.in_ok-tra.ensures.files c.n.ensures.value c.in-Some.is c.in_ok-lab.ensures.lab)
     c.in_ok-model.ensures.built
 
 pub returns-clause-asked : goal.returns-clause-asked

@@ -1,0 +1,11 @@
+pub mod Lines
+pub mod LinesOf
+pub mod Words
+pub mod WordsOf
+pub mod WordLines
+pub mod Items
+pub mod WholeNumber
+pub mod Name
+pub mod Decimals
+pub mod UnlessMemory
+pub mod Laws

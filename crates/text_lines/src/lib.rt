@@ -1,0 +1,22 @@
+//! The lines of a text, the words of a line, whole numbers and names, and what can be wrong with a
+//! file that is made of them.
+#![tactic(auto)]
+
+mod fault;
+mod laws;
+mod line;
+mod name;
+#[cfg(test)]
+mod tests;
+mod whole_number;
+mod word;
+
+pub use fault::{FileFault, FileWhat, ReadFault};
+pub use laws::{
+    blank_line_has_blanks_alone, line_has_its_words, line_has_no_other_words, text_has_its_lines,
+    text_has_its_word_lines, text_has_no_other_lines, text_has_no_other_word_lines,
+};
+pub use line::{Line, LineIter, end_line, lines};
+pub use name::{Name, is_name};
+pub use whole_number::whole;
+pub use word::{Word, WordIter, words};

@@ -1,0 +1,17 @@
+pub mod BodyCases
+pub mod BodyLemmas
+pub mod ChainLemmas
+pub mod EntryCases
+pub mod EntryLemmas
+pub mod Exactly
+pub mod FaultLemmas
+pub mod HeadCases
+pub mod HeadLemmas
+pub mod PairLemmas
+pub mod RateCases
+pub mod RateLemmas
+pub mod Readings
+pub mod RepeatLemmas
+pub mod RowLemmas
+pub mod TextLemmas
+pub mod TraLists
