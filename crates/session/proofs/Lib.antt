@@ -1,12 +1,11 @@
+pub mod CommandWords
+pub mod FormulaNames
 pub mod Fronts
 pub mod Mixes
+pub mod OneFile
+pub mod OneModel
 pub mod Outcomes
 pub mod PlainFormulas
-pub mod PlainLabels
-pub mod PlainLabs
-pub mod PlainLines
-pub mod PlainNames
-pub mod PlainNumbers
 pub mod PlainWords
 pub mod PlanColumns
 pub mod PlanOf

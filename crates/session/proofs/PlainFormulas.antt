@@ -181,7 +181,7 @@ time_before name text rest t time is h =
     let same : (t ≡ time) × (rest ≡ h.rest) = number_before_unique 93 text rest h.rest t time (omega arith) (λ z. omega arith) is h.is_time in
     (same.0, subst (IsLine (codes " " ++ name ++ codes "]")) (sym same.1) h.ends)
 
-bracket_of : (name path : List ℕ) (time : DecimalNumber) → IsUntilEnd name path time → (text : List ℕ) × (path ≡ codes "[tt U[0," ++ text)
+pub bracket_of : (name path : List ℕ) (time : DecimalNumber) → IsUntilEnd name path time → (text : List ℕ) × (path ≡ codes "[tt U[0," ++ text)
 bracket_of name path time h =
     let after = line_rest (codes "[tt U[0,") (h.time_word ++ (codes "] " ++ name ++ codes "]")) path (until_line name h.time_word path h.text) in
     (after.0, after.1)

@@ -1,38 +1,83 @@
 -- What is known of the files that were read, and of the names that were asked for.
-use Rattle.std.proofs.Common.{◌≡◌, ℕ, suc, ◌≤◌, List, [], ◌∷◌, ◌++◌, length, take, Option, Some, None, IfSome, Result, Ok, Err, IsErr, inr, subst, ap, ◌∙◌, append_assoc}
+use Rattle.std.proofs.Common.{◌≡◌, ℕ, ◌+◌, List, ◌++◌, length, take, min, Option, Some, None, IfSome, Result, Ok, Err, IsErr, sym, subst, ap, ◌∙◌, append_assoc, arith}
+use Rattle.std.proofs.Math.Seq.{take-append-add, take-length}
+use Rattle.std.proofs.lemmas.List.{take-append-le, take_min}
 use Rattle.std.proofs.lemmas.Bool.{false≢true}
-use Rattle.outside.specs.Shelf.{Pair, IsFile, file_limit}
-use Rattle.model_core.specs.Files.{TraLists, LabLists}
-use Rattle.model_core.specs.Model.{ModelLists, IsBuiltOf}
+use Rattle.std.proofs.lemmas.List.FromFn.{length-map-range_with_len}
+use Rattle.outside.specs.Shelf.{Pair}
+use Rattle.model_core.specs.Files.{TraLists, LabLists, RewLists}
 use Rattle.text_lines.specs.declared.fault.FileFault.{FileFault}
-use Rattle.session.specs.Command.{FileNames}
-use Rattle.session.specs.Outcome.{TakesLab}
-use Rattle.session.specs.PlainText.{IsReading}
-use Rattle.session.specs.PlainLab.{IsPlainLab}
-use Rattle.session.specs.Reading.{IsTraReading, IsLabReading, IsModelOf, AsksForModel}
+use Rattle.session.specs.Command.{FileNames, names_of}
+use Rattle.session.specs.Outcome.{TakesTra, TakesLab, TakesRew, IsFaultyAt, IsFileFaulty}
+use Rattle.session.specs.Reading.{IsTraReading, IsLabReading, IsRewReading, AsksForModel}
 use Rattle.session.specs.Serve.{AsksFor}
 use Rattle.session.specs.declared.reading.ModelReading.{ModelReading}
 use Rattle.session.specs.declared.reading.Stop.{Stop}
+use Rattle.session.specs.declared.status.ModelFault.{ModelFault}
+use Rattle.session.specs.declared.status.Which.{Which}
+use Rattle.session.specs.declared.status.Which.TheVariants.{TraFile, LabFile, RewFile}
 
-pub lab_reading : (n : ℕ) (name : List ℕ) (files : Option (List Pair)) (bytes text : List ℕ) (read : Option LabLists) → text ≡ bytes
-    → IsFile name files bytes × (length bytes ≤ file_limit) → IsReading (IsPlainLab n text) read → IsLabReading n name files read
-lab_reading n name files bytes text None e f r =
-    inr (record { bytes = bytes; is_file = f.0; within = f.1; other = subst (λ t. (lab : LabLists) → ¬ IsPlainLab n t lab) e r })
-lab_reading n name files bytes text (Some lab) e f r =
-    record { bytes = bytes; is_file = f.0; within = f.1; plain = subst (λ t. IsPlainLab n t lab) e r }
+-- ---- the files one after another
+pub takes_tra : (files : Option (List Pair)) (name : List ℕ) (tra : TraLists) (read : Result TraLists FileFault)
+    → read ≡ Ok tra → IsTraReading name files read → TakesTra name files tra
+takes_tra files name tra read is h = subst (IsTraReading name files) is h
 
 -- the file of labels is read over the states of the file before it
-pub takes_lab : (files mid : Option (List Pair)) (name : List ℕ) (n : ℕ) (tra : TraLists) (lab : LabLists) (read : Option LabLists)
-    → mid ≡ files → n ≡ tra.n → read ≡ Some lab → IsLabReading n name mid read → TakesLab tra.n name files lab
+pub takes_lab : (files mid : Option (List Pair)) (name : List ℕ) (n : ℕ) (tra : TraLists) (lab : LabLists) (read : Result LabLists FileFault)
+    → mid ≡ files → n ≡ tra.n → read ≡ Ok lab → IsLabReading n name mid read → TakesLab tra.n name files lab
 takes_lab files mid name n tra lab read same count is h =
     subst (λ k. TakesLab k name files lab) count (subst (λ f. TakesLab n name f lab) same (subst (IsLabReading n name mid) is h))
 
-pub model_of : (files : Option (List Pair)) (names : FileNames) (tra : TraLists) (lab : LabLists) (model : ModelLists) (read : Result TraLists FileFault)
-    → read ≡ Ok tra → IsTraReading names.tra files read → TakesLab tra.n names.lab files lab → IsBuiltOf model tra lab None → IsModelOf names files model
-model_of files names tra lab model read is h labels built = record {
-  takes = record { tra = tra; lab = lab; takes_tra = subst (IsTraReading names.tra files) is h; takes_lab = labels };
-  built = built;
-}
+-- and so is the file of rewards
+pub takes_rew : (files mid : Option (List Pair)) (name : Option (List ℕ)) (n : ℕ) (tra : TraLists) (rew : Option RewLists) (read : Result (Option RewLists) FileFault)
+    → mid ≡ files → n ≡ tra.n → read ≡ Ok rew → IsRewReading n name mid read → TakesRew tra.n name files rew
+takes_rew files mid name n tra rew read same count is h =
+    subst (λ k. TakesRew k name files rew) count (subst (λ f. TakesRew n name f rew) same (subst (IsRewReading n name mid) is h))
+
+-- there are as many rewards as states
+pub rew_length : (n : ℕ) (name : Option (List ℕ)) (files : Option (List Pair)) (rew : RewLists) → TakesRew n name files (Some rew) → length rew.rewards ≡ n
+rew_length n None files rew p = absurd p
+rew_length n (Some name) files rew p = ap length p.is_so.rewards ∙ length-map-range_with_len _ 0 n
+
+-- a fault of one of the files, as that of the model
+module _ (names : FileNames) (files : Option (List Pair)) where
+  as_model_fault : (f : Which) (fault : FileFault) (told : ModelFault) → told.file ≡ f → told.line ≡ fault.line → told.what ≡ fault.what
+      → IsFaultyAt names files f fault.line fault.what → IsFileFaulty names files told
+  as_model_fault f fault told p q r h =
+      subst (λ x. IsFaultyAt names files x told.line told.what) (sym p)
+      (subst (λ x. IsFaultyAt names files f x told.what) (sym q) (subst (λ x. IsFaultyAt names files f fault.line x) (sym r) h))
+
+  pub tra_fault : (fault : FileFault) (told : ModelFault) (read : Result TraLists FileFault) → told.file ≡ TraFile → told.line ≡ fault.line
+      → told.what ≡ fault.what → read ≡ Err fault → IsTraReading names.tra files read → IsFileFaulty names files told
+  tra_fault fault told read p q r is h = as_model_fault TraFile fault told p q r (subst (IsTraReading names.tra files) is h)
+
+  pub lab_fault : (mid : Option (List Pair)) (n : ℕ) (tra : TraLists) (fault : FileFault) (told : ModelFault) (read : Result LabLists FileFault)
+      → told.file ≡ LabFile → told.line ≡ fault.line → told.what ≡ fault.what → TakesTra names.tra files tra
+      → mid ≡ files → n ≡ tra.n → read ≡ Err fault → IsLabReading n names.lab mid read → IsFileFaulty names files told
+  lab_fault mid n tra fault told read p q r takes same count is h =
+      as_model_fault LabFile fault told p q r
+      (record {
+        tra = tra;
+        takes_tra = takes;
+        faulty =
+            subst (λ k. IsLabReading k names.lab files (Err fault)) count
+            (subst (λ f. IsLabReading n names.lab f (Err fault)) same (subst (IsLabReading n names.lab mid) is h));
+      })
+
+  pub rew_fault : (mid : Option (List Pair)) (n : ℕ) (tra : TraLists) (lab : LabLists) (fault : FileFault) (told : ModelFault) (read : Result (Option RewLists) FileFault)
+      → told.file ≡ RewFile → told.line ≡ fault.line → told.what ≡ fault.what → TakesTra names.tra files tra → TakesLab tra.n names.lab files lab
+      → mid ≡ files → n ≡ tra.n → read ≡ Err fault → IsRewReading n names.rew mid read → IsFileFaulty names files told
+  rew_fault mid n tra lab fault told read p q r takes labels same count is h =
+      as_model_fault RewFile fault told p q r
+      (record {
+        tra = tra;
+        lab = lab;
+        takes_tra = takes;
+        takes_lab = labels;
+        faulty =
+            subst (λ k. IsRewReading k names.rew files (Err fault)) count
+            (subst (λ f. IsRewReading n names.rew f (Err fault)) same (subst (IsRewReading n names.rew mid) is h));
+      })
 
 -- two facts of files that are told give a third
 pub told_both : (files mid : Option (List Pair)) (P Q R : Type 0) → mid ≡ files → (P → Q → R)
@@ -43,20 +88,32 @@ told_both files mid P Q R same f p q = told files p (subst (λ o. IfSome o (λ _
     told None p q = tt
     told (Some pairs) p q = f p q
 
+-- ---- the names that were asked for
+module _ (old : List (List ℕ)) where
+  pub asks_whole : (xs new : List (List ℕ)) → new ≡ old ++ xs → AsksFor xs old new
+  asks_whole xs new e = record { count = length xs; appended = e ∙ ap (λ l. old ++ l) (sym (take-length xs)) }
+
+  -- names after others
+  pub asks_then : (xs ys mid new : List (List ℕ)) → mid ≡ old ++ xs → new ≡ mid ++ ys → new ≡ old ++ (xs ++ ys)
+  asks_then xs ys mid new p q = q ∙ ap (λ l. l ++ ys) p ∙ append_assoc old xs ys
+
+  pub asks_after : (xs ys mid new : List (List ℕ)) → mid ≡ old ++ xs → AsksFor ys mid new → AsksFor (xs ++ ys) old new
+  asks_after xs ys mid new p q = record {
+    count = length xs + q.count;
+    appended =
+        q.appended ∙ ap (λ l. l ++ take q.count ys) p ∙ append_assoc old xs (take q.count ys)
+        ∙ ap (λ l. old ++ l) (sym (take-append-add xs ys q.count));
+  }
+
+  -- a front of names is one of them and more
+  pub asks_front : (xs ys new : List (List ℕ)) → AsksFor xs old new → AsksFor (xs ++ ys) old new
+  asks_front xs ys new q = record {
+    count = min q.count (length xs);
+    appended = q.appended ∙ ap (λ l. old ++ l) (sym (take_min q.count xs) ∙ sym (take-append-le (min q.count (length xs)) xs ys (omega arith)));
+  }
+
 -- after a fault, names that were asked for are a front of those of the command
 pub asks_err : (names : FileNames) (r : Result ModelReading Stop) (old new : List (List ℕ)) → IsErr r
-    → AsksFor (names.tra ∷ names.lab ∷ []) old new → AsksForModel names r old new
+    → AsksFor (names_of (Some names)) old new → AsksForModel names r old new
 asks_err names (Ok reading) old new err asks = absurd (false≢true err)
 asks_err names (Err stop) old new err asks = asks
-
-pub asks_both : (tra lab : List ℕ) (old mid new : List (List ℕ)) → mid ≡ old ++ tra ∷ [] → new ≡ mid ++ lab ∷ [] → new ≡ old ++ tra ∷ lab ∷ []
-asks_both tra lab old mid new p q = q ∙ ap (λ l. l ++ lab ∷ []) p ∙ append_assoc old (tra ∷ []) (lab ∷ [])
-
-pub asks_second : (tra lab : List ℕ) (old mid new : List (List ℕ)) → mid ≡ old ++ tra ∷ [] → AsksFor (lab ∷ []) mid new → AsksFor (tra ∷ lab ∷ []) old new
-asks_second tra lab old mid new p q = record {
-  count = suc q.count;
-  appended = q.appended ∙ ap (λ l. l ++ take q.count (lab ∷ [])) p ∙ append_assoc old (tra ∷ []) (take q.count (lab ∷ []));
-}
-
-pub asks_whole : (tra lab : List ℕ) (old new : List (List ℕ)) → new ≡ old ++ tra ∷ lab ∷ [] → AsksFor (tra ∷ lab ∷ []) old new
-asks_whole tra lab old new e = record { count = 2; appended = e }

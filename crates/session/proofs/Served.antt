@@ -1,5 +1,5 @@
 -- What the top call promises, from what it read and wrote.
-use Rattle.std.proofs.Common.{◌≡◌, ℕ, suc, ◌+◌, ◌*◌, ◌^◌, ◌<◌, ◌≤◌, List, [], ◌∷◌, ◌++◌, length, map, Option, Some, None, IfSome, IsSomeAnd, Result, Ok, Err, IfOk, refl, sym, ap, ◌∙◌, subst, arith, rules, get_or, Bool, true, false, if◌then◌else◌, nat_lt}
+use Rattle.std.proofs.Common.{◌≡◌, ℕ, suc, ◌+◌, ◌*◌, ◌^◌, ◌<◌, ◌≤◌, List, ◌++◌, length, map, Option, Some, None, IfSome, IsSomeAnd, Result, Ok, Err, IfOk, refl, sym, ap, ◌∙◌, subst, arith, rules, get_or, Bool, true, false, if◌then◌else◌, nat_lt}
 use Rattle.std.specs.declared.alloc.AllocError.{AllocError}
 use Rattle.std.specs.List.{range_with_len, slice_get}
 use Rattle.std.proofs.lemmas.Bool.{ltb-false}
@@ -23,7 +23,7 @@ use Rattle.session.specs.Command.{FileNames, names_of}
 use Rattle.session.specs.FormulaAnswer.{FormulaAnswer, Answers, unless_refused, formula_answer, formula_horizon, formula_refusal, formula_states, IsExactAnswer}
 use Rattle.session.specs.NextAnswer.{IsExact, next_answer, next_answers}
 use Rattle.session.specs.UntilAnswer.{IsExactUntil, until_answers, until_bits, until_of, state_words, words_answer}
-use Rattle.session.specs.Outcome.{Outcome, Usage, Faulty, NotBuilt, Refused, Answered, TakesFormula, IsOtherInput, IsOutcomeOf, first_name, tra_chain, lab_goal, outcome_text, outcome_status}
+use Rattle.session.specs.Outcome.{Outcome, Usage, Faulty, NotBuilt, Refused, Answered, TakesFormula, IsOtherInput, IsOutcomeOf, name_at, tra_chain, lab_goal, outcome_text, outcome_status}
 use Rattle.session.specs.Reading.{IsModelOf, IsFormulaOutcome, IsAnswerTo, AsksForReply, model_goal, outcome_of, names_before}
 use Rattle.session.specs.PlainFormula.{formula_text, comparison_of}
 use Rattle.session.specs.Report.{answer_text}
@@ -36,13 +36,14 @@ use Rattle.session.specs.declared.uniformise.Refusal.TheVariants.{TooLong, TooLa
 use Rattle.session.specs.UntilPlan.{until_refusal, plan_refusal, most_jumps, most_words}
 use Rattle.session.specs.declared.reading.Reply.{Reply}
 use Rattle.session.specs.declared.reading.Stop.{Stop}
-use Rattle.session.specs.declared.status.Part.TheVariants.{LabFile, Formula}
-use Rattle.session.specs.declared.status.ModelFault.{ModelFault}
+use Rattle.session.specs.declared.status.Part.TheVariants.{Formula}
 use Rattle.session.specs.declared.status.Which.{Which}
 use Rattle.session.specs.declared.status.Which.TheVariants as which
 use Rattle.session.specs.declared.status.Status.{Status}
 use Rattle.session.specs.declared.status.Status.TheVariants as status
 use Rattle.session.proofs.Outcomes.{one_outcome, same_answers, same_horizon, answered_or_refused}
+use Rattle.session.specs.declared.plain_formula.NamedFormula.{NamedFormula}
+use Rattle.session.proofs.Readings.{asks_whole}
 use Rattle.session.proofs.Rounding.{next_answer_exact}
 use Rattle.session.proofs.Verdicts.{until_exact}
 
@@ -59,52 +60,46 @@ module _ (names : FileNames) (files : Option (List Pair)) (before now : Option (
   chain_is : model_chain model ≡ tra_chain is.takes.tra
   chain_is = ap (λ n. chain_of n model.rates) is.built.n ∙ sym (same_chain is.takes.tra.n is.takes.tra.rates model.rates is.built.rates)
 
-  name_is : first_name model.names ≡ first_name is.takes.lab.names
-  name_is = ap first_name is.built.names
-
   -- the formula is answered over the files as over the model
-  answer_is : (f : PlainFormula) → formula_answer (model_chain model) model.scale (model_goal model) f
-      ≡ formula_answer (tra_chain is.takes.tra) is.takes.tra.scale (lab_goal is.takes.lab) f
-  answer_is f =
-      ap (λ c. formula_answer c model.scale (model_goal model) f) chain_is
-      ∙ ap (λ d. formula_answer (tra_chain is.takes.tra) d (model_goal model) f) is.built.scale
-      ∙ ap (λ m. formula_answer (tra_chain is.takes.tra) is.takes.tra.scale (has_label m 0) f) is.built.marks
-
-  other_input : IsOtherInput (first_name model.names) before now → IsOtherInput (first_name is.takes.lab.names) before now
-  other_input h = subst (λ n. IsOtherInput n before now) name_is h
+  answer_is : (label : ℕ) (f : PlainFormula) → formula_answer (model_chain model) model.scale (model_goal model label) f
+      ≡ formula_answer (tra_chain is.takes.tra) is.takes.tra.scale (lab_goal is.takes.lab label) f
+  answer_is label f =
+      ap (λ c. formula_answer c model.scale (model_goal model label) f) chain_is
+      ∙ ap (λ d. formula_answer (tra_chain is.takes.tra) d (model_goal model label) f) is.built.scale
+      ∙ ap (λ m. formula_answer (tra_chain is.takes.tra) is.takes.tra.scale (has_label m label) f) is.built.marks
 
   from_formula : (outcome : Outcome) → IsFormulaOutcome model before now outcome → IsOutcomeOf (Some names) files before now outcome
   from_formula Usage h = absurd h
   from_formula (Faulty fault) h = absurd h
-  from_formula (NotBuilt LabFile) h = absurd h
-  from_formula (NotBuilt Formula) h = record { model = is.takes; other = other_input h }
+  from_formula (NotBuilt Formula) h = record { model = is.takes; other = subst (λ n. IsOtherInput n before now) is.built.names h }
   from_formula (Refused refusal) h = record {
     model = is.takes;
+    label = h.label;
     formula = h.formula;
-    takes_formula = subst (λ n. TakesFormula n before now h.formula) name_is h.takes;
-    is_refusal = sym (answer_is h.formula) ∙ h.is_refusal;
+    takes_formula = subst (λ n. TakesFormula n before now h.label h.formula) is.built.names h.takes;
+    is_refusal = sym (answer_is h.label h.formula) ∙ h.is_refusal;
   }
   from_formula (Answered text horizon states) h = record {
     model = is.takes;
+    label = h.label;
     formula = h.formula;
-    takes_formula = subst (λ n. TakesFormula n before now h.formula) name_is h.takes;
-    is_text = h.is_text ∙ ap (λ n. formula_text n h.formula) name_is;
-    are_states = sym (answer_is h.formula) ∙ h.are_states;
+    takes_formula = subst (λ n. TakesFormula n before now h.label h.formula) is.built.names h.takes;
+    is_text = h.is_text ∙ ap (λ n. formula_text (name_at n h.label) h.formula) is.built.names;
+    are_states = sym (answer_is h.label h.formula) ∙ h.are_states;
   }
 
-  -- after the formula both names were asked for
-  both_names : (outcome : Outcome) → IsFormulaOutcome model before now outcome → names_before outcome (Some names) ≡ names.tra ∷ names.lab ∷ []
-  both_names Usage h = absurd h
-  both_names (Faulty fault) h = absurd h
-  both_names (NotBuilt LabFile) h = absurd h
-  both_names (NotBuilt Formula) h = refl
-  both_names (Refused refusal) h = refl
-  both_names (Answered formula horizon states) h = refl
+  -- after the formula all names were asked for
+  all_names : (outcome : Outcome) → IsFormulaOutcome model before now outcome → names_before outcome (Some names) ≡ names_of (Some names)
+  all_names Usage h = absurd h
+  all_names (Faulty fault) h = absurd h
+  all_names (NotBuilt Formula) h = refl
+  all_names (Refused refusal) h = refl
+  all_names (Answered formula horizon states) h = refl
 
   asks_of_formula : (r : Result Reply Stop) (old new : List (List ℕ)) → IfOk r (λ reply. IsFormulaOutcome model before now (outcome_of reply))
-      → new ≡ old ++ names.tra ∷ names.lab ∷ [] → AsksForReply (Some names) r old new
-  asks_of_formula (Ok reply) old new h e = e ∙ ap (λ l. old ++ l) (sym (both_names (outcome_of reply) h))
-  asks_of_formula (Err stop) old new h e = record { count = 2; appended = e }
+      → new ≡ old ++ names_of (Some names) → AsksForReply (Some names) r old new
+  asks_of_formula (Ok reply) old new h e = e ∙ ap (λ l. old ++ l) (sym (all_names (outcome_of reply) h))
+  asks_of_formula (Err stop) old new h e = asks_whole old (names_of (Some names)) new e
 
   -- the same for the reply and its command
   pub reply_outcome : (command : Option FileNames) (r : Result Reply Stop) → command ≡ Some names → IfOk r (λ reply. IsFormulaOutcome model before now (outcome_of reply))
@@ -115,24 +110,25 @@ module _ (names : FileNames) (files : Option (List Pair)) (before now : Option (
 
   pub reply_asks : (command : Option FileNames) (r : Result Reply Stop) (old new : List (List ℕ)) → command ≡ Some names
       → IfOk r (λ reply. IsFormulaOutcome model before now (outcome_of reply))
-      → IfSome files (λ _. new ≡ old ++ names.tra ∷ names.lab ∷ []) → IfSome files (λ _. AsksForReply command r old new)
+      → IfSome files (λ _. new ≡ old ++ names_of (Some names)) → IfSome files (λ _. AsksForReply command r old new)
   reply_asks command r old new e h asked =
-      told_names files (new ≡ old ++ names.tra ∷ names.lab ∷ []) (AsksForReply command r old new)
+      told_names files (new ≡ old ++ names_of (Some names)) (AsksForReply command r old new)
       (λ p. subst (λ o. AsksForReply o r old new) (sym e) (asks_of_formula r old new h p)) asked
 
 -- ---- what a formula gives over the model
-pub from_answer : (model : ModelLists) (before now : Option (List ℕ)) (formula : PlainFormula) (r : Result Reply AllocError)
-    → TakesFormula (first_name model.names) before now formula → IfOk r (λ reply. IsAnswerTo model (first_name model.names) formula (outcome_of reply))
+pub from_answer : (model : ModelLists) (before now : Option (List ℕ)) (named : NamedFormula) (r : Result Reply AllocError)
+    → TakesFormula model.names before now named.label named.formula → IfOk r (λ reply. IsAnswerTo model named (outcome_of reply))
     → IfOk r (λ reply. IsFormulaOutcome model before now (outcome_of reply))
-from_answer model before now formula (Err e) takes h = tt
-from_answer model before now formula (Ok reply) takes h = answered (outcome_of reply) h
+from_answer model before now named (Err e) takes h = tt
+from_answer model before now named (Ok reply) takes h = answered (outcome_of reply) h
   where
-    answered : (o : Outcome) → IsAnswerTo model (first_name model.names) formula o → IsFormulaOutcome model before now o
+    answered : (o : Outcome) → IsAnswerTo model named o → IsFormulaOutcome model before now o
     answered Usage h = absurd h
     answered (Faulty fault) h = absurd h
     answered (NotBuilt part) h = absurd h
-    answered (Refused refusal) h = record { formula = formula; takes = takes; is_refusal = h }
-    answered (Answered text horizon states) h = record { formula = formula; takes = takes; is_text = h.0; are_states = h.1 }
+    answered (Refused refusal) h = record { label = named.label; formula = named.formula; takes = takes; is_refusal = h }
+    answered (Answered text horizon states) h =
+        record { label = named.label; formula = named.formula; takes = takes; is_text = h.0; are_states = h.1 }
 
 -- ---- an answer is exact
 -- what a list of answers, one a state, has at a state
@@ -226,15 +222,16 @@ answered_exactly command files left_before left_now before now (NotBuilt part) d
 answered_exactly command files left_before left_now before now (Refused refusal) done h printed = cc
 answered_exactly None files left_before left_now before now (Answered text horizon states) done h printed = absurd h
 answered_exactly (Some names) files left_before left_now before now (Answered text horizon states) done h printed =
-    let are = answers_exact (tra_chain h.model.tra) h.model.tra.scale (lab_goal h.model.lab) horizon states h.formula h.are_states in
+    let are = answers_exact (tra_chain h.model.tra) h.model.tra.scale (lab_goal h.model.lab h.label) horizon states h.formula h.are_states in
     record {
       model = h.model;
+      label = h.label;
       formula = h.formula;
       takes_formula = h.takes_formula;
       states = states;
       printed =
-          subst (λ k. Appends before now (answer_text (formula_text (first_name h.model.lab.names) h.formula) k states))
-          (horizon_printed (tra_chain h.model.tra) h.model.tra.scale (lab_goal h.model.lab) horizon states h.formula h.are_states)
+          subst (λ k. Appends before now (answer_text (formula_text (name_at h.model.lab.names h.label) h.formula) k states))
+          (horizon_printed (tra_chain h.model.tra) h.model.tra.scale (lab_goal h.model.lab h.label) horizon states h.formula h.are_states)
           (subst (λ f. Appends before now (answer_text f horizon states)) h.is_text printed);
       each_state = are.each_state;
       exact = are.exact;
@@ -270,8 +267,7 @@ told command files left_before left_now before now flushed s mine outcome pairs 
 
 -- ---- the names that were asked for
 all_asked : (command : Option FileNames) (old new : List (List ℕ)) → new ≡ old ++ names_of command → AsksFor (names_of command) old new
-all_asked None old new e = record { count = 0; appended = e }
-all_asked (Some names) old new e = record { count = 2; appended = e }
+all_asked command old new e = asks_whole old (names_of command) new e
 
 front_asked : (command : Option FileNames) (outcome : Outcome) (old new : List (List ℕ)) → new ≡ old ++ names_before outcome command → AsksFor (names_of command) old new
 front_asked command Usage old new e = record { count = 0; appended = e }
@@ -279,9 +275,8 @@ front_asked command (Faulty fault) old new e = through fault.file e
   where
     through : (file : Which) → new ≡ old ++ names_through file command → AsksFor (names_of command) old new
     through which.TraFile e = record { count = 1; appended = e }
-    through which.LabFile e = all_asked command old new e
+    through which.LabFile e = record { count = 2; appended = e }
     through which.RewFile e = all_asked command old new e
-front_asked command (NotBuilt LabFile) old new e = all_asked command old new e
 front_asked command (NotBuilt Formula) old new e = all_asked command old new e
 front_asked command (Refused refusal) old new e = all_asked command old new e
 front_asked command (Answered formula horizon states) old new e = all_asked command old new e

@@ -6,8 +6,6 @@ pub mod MixColumns
 pub mod NextAnswer
 pub mod Outcome
 pub mod PlainFormula
-pub mod PlainLab
-pub mod PlainText
 pub mod Reading
 pub mod Report
 pub mod Serve

@@ -1,24 +1,27 @@
 -- What is answered to the words, the files and the formulas.
-use Rattle.std.specs.Prelude.{◌≡◌, ℕ, Bool, ◌+◌, ◌≤◌, ◌⊎◌, List, [], ◌∷◌, ◌++◌, length, codes, Option, IsNone, IsSomeAnd, slice_index_or}
+use Rattle.std.specs.Prelude.{◌≡◌, ℕ, Bool, ◌+◌, ◌<◌, ◌≤◌, ◌⊎◌, List, [], ◌∷◌, ◌++◌, length, codes, Option, Some, None, IsNone, IsSomeAnd, slice_index_or}
 use Rattle.std.specs.Io.KnownBytes.{Consumes, Keeps, IsAtEnd}
 use Rattle.outside.specs.Shelf.{Pair, IsFile, IsTooBig, file_limit}
 use Rattle.ctmc_semantics.specs.Chain.{Chain}
-use Rattle.model_core.specs.Files.{TraLists, LabLists}
+use Rattle.model_core.specs.Files.{TraLists, LabLists, RewLists}
 use Rattle.model_core.specs.Model.{has_label}
 use Rattle.model_core.specs.Transitions.{chain_of}
 use Rattle.session.specs.Command.{FileNames, command_of}
 use Rattle.session.specs.FormulaAnswer.{Answers, Refuses, formula_answer}
 use Rattle.session.specs.PlainFormula.{IsPlainFormula, formula_text}
-use Rattle.session.specs.PlainLab.{IsPlainLab}
 use Rattle.session.specs.Report.{answer_text}
 use Rattle.session.specs.declared.plain_formula.PlainFormula.{PlainFormula}
 use Rattle.session.specs.declared.status.Part.{Part}
 use Rattle.session.specs.declared.status.ModelFault.{ModelFault}
 use Rattle.session.specs.declared.status.Which.{Which}
 use Rattle.session.specs.declared.status.Which.TheVariants as which
-use Rattle.session.specs.declared.status.Part.TheVariants.{LabFile, Formula}
+use Rattle.session.specs.declared.status.Part.TheVariants.{Formula}
 use Rattle.text_lines.specs.declared.fault.FileWhat.{FileWhat}
 use Rattle.text_lines.specs.declared.fault.FileWhat.TheVariants.{TooBig}
+use Rattle.lab_reader.specs.LabFault.{LabFaultAt}
+use Rattle.lab_reader.specs.LabText.{LabSays}
+use Rattle.rew_reader.specs.RewFault.{RewFaultAt}
+use Rattle.rew_reader.specs.RewText.{RewSays}
 use Rattle.tra_reader.specs.TraFault.{TraFaultAt}
 use Rattle.tra_reader.specs.TraText.{TraSays}
 use Rattle.session.specs.FaultText.{model_fault_text}
@@ -39,26 +42,36 @@ pub data Outcome : Type 0 where
   Refused : Refusal → Outcome
   Answered : List ℕ → Option ℕ → List StateAnswer → Outcome
 
--- the file was taken whole, and stands for this chain
-pub record TakesTra (name : List ℕ) (files : Option (List Pair)) (tra : TraLists) : Type 0 where
+-- the file was taken whole, and its text is so
+pub record TakesText (name : List ℕ) (files : Option (List Pair)) (IsSo : List ℕ → Type 0) : Type 0 where
   pub bytes : List ℕ
   pub is_file : IsFile name files bytes
   pub within : length bytes ≤ file_limit
-  pub says : TraSays bytes tra
+  pub is_so : IsSo bytes
 
--- the file was taken whole, and stands for these labels of n states
-pub record TakesLab (n : ℕ) (name : List ℕ) (files : Option (List Pair)) (lab : LabLists) : Type 0 where
-  pub bytes : List ℕ
-  pub is_file : IsFile name files bytes
-  pub within : length bytes ≤ file_limit
-  pub plain : IsPlainLab n bytes lab
+-- the file stands for this chain
+abbrev pub TakesTra : List ℕ → Option (List Pair) → TraLists → Type 0
+TakesTra name files tra = TakesText name files (λ bytes. TraSays bytes tra)
 
--- both files stand for a model
+-- the file stands for these labels of n states
+abbrev pub TakesLab : ℕ → List ℕ → Option (List Pair) → LabLists → Type 0
+TakesLab n name files lab = TakesText name files (λ bytes. LabSays bytes n lab)
+
+-- the file, if there is one, stands for these rewards of n states
+abbrev pub TakesRew : ℕ → Option (List ℕ) → Option (List Pair) → Option RewLists → Type 0
+TakesRew n None files None = Unit {0}
+TakesRew n None files (Some rew) = ⊥
+TakesRew n (Some name) files None = ⊥
+TakesRew n (Some name) files (Some rew) = TakesText name files (λ bytes. RewSays bytes n rew)
+
+-- the files stand for a model
 pub record TakesModel (names : FileNames) (files : Option (List Pair)) : Type 0 where
   pub tra : TraLists
   pub lab : LabLists
+  pub rew : Option RewLists
   pub takes_tra : TakesTra names.tra files tra
   pub takes_lab : TakesLab tra.n names.lab files lab
+  pub takes_rew : TakesRew tra.n names.rew files rew
 
 -- the file has too many bytes, which is told at line 0
 pub record IsTooLong (name : List ℕ) (files : Option (List Pair)) (line : ℕ) (what : FileWhat) : Type 0 where
@@ -66,52 +79,66 @@ pub record IsTooLong (name : List ℕ) (files : Option (List Pair)) (line : ℕ)
   pub at_no_line : line ≡ 0
   pub told : what ≡ TooBig
 
--- the file was taken whole, and has this fault at this line
-pub record TakesFaultyTra (name : List ℕ) (files : Option (List Pair)) (line : ℕ) (what : FileWhat) : Type 0 where
-  pub bytes : List ℕ
-  pub is_file : IsFile name files bytes
-  pub within : length bytes ≤ file_limit
-  pub fault : TraFaultAt bytes line what
+-- the file has too many bytes, or was taken whole and has this fault at this line
+abbrev pub IsFaulty : List ℕ → Option (List Pair) → (List ℕ → ℕ → FileWhat → Type 0) → ℕ → FileWhat → Type 0
+IsFaulty name files FaultAt line what = IsTooLong name files line what ⊎ TakesText name files (λ bytes. FaultAt bytes line what)
 
 -- what is wrong with the file of the chain
 abbrev pub IsTraFaulty : List ℕ → Option (List Pair) → ℕ → FileWhat → Type 0
-IsTraFaulty name files line what = IsTooLong name files line what ⊎ TakesFaultyTra name files line what
+IsTraFaulty name files line what = IsFaulty name files TraFaultAt line what
 
--- what is wrong with the first file that has a fault; only the file of the chain is read whole today
+-- what is wrong with the file of the labels of n states
+abbrev pub IsLabFaulty : ℕ → List ℕ → Option (List Pair) → ℕ → FileWhat → Type 0
+IsLabFaulty n name files line what = IsFaulty name files (λ bytes. LabFaultAt bytes n) line what
+
+-- what is wrong with the file of the rewards of n states, where there is one
+abbrev pub IsRewFaulty : ℕ → Option (List ℕ) → Option (List Pair) → ℕ → FileWhat → Type 0
+IsRewFaulty n None files line what = ⊥
+IsRewFaulty n (Some name) files line what = IsFaulty name files (λ bytes. RewFaultAt bytes n) line what
+
+-- the file of the chain stands for one, and this is wrong with the file of the labels
+pub record IsLabFaultyAfter (names : FileNames) (files : Option (List Pair)) (line : ℕ) (what : FileWhat) : Type 0 where
+  pub tra : TraLists
+  pub takes_tra : TakesTra names.tra files tra
+  pub faulty : IsLabFaulty tra.n names.lab files line what
+
+-- the files of the chain and of the labels stand for some, and this is wrong with the file of the rewards
+pub record IsRewFaultyAfter (names : FileNames) (files : Option (List Pair)) (line : ℕ) (what : FileWhat) : Type 0 where
+  pub tra : TraLists
+  pub lab : LabLists
+  pub takes_tra : TakesTra names.tra files tra
+  pub takes_lab : TakesLab tra.n names.lab files lab
+  pub faulty : IsRewFaulty tra.n names.rew files line what
+
+-- what is wrong with the first file that has a fault
 abbrev pub IsFaultyAt : FileNames → Option (List Pair) → Which → ℕ → FileWhat → Type 0
 IsFaultyAt names files which.TraFile line what = IsTraFaulty names.tra files line what
-IsFaultyAt names files which.LabFile line what = ⊥
-IsFaultyAt names files which.RewFile line what = ⊥
+IsFaultyAt names files which.LabFile line what = IsLabFaultyAfter names files line what
+IsFaultyAt names files which.RewFile line what = IsRewFaultyAfter names files line what
 
 abbrev pub IsFileFaulty : FileNames → Option (List Pair) → ModelFault → Type 0
 IsFileFaulty names files fault = IsFaultyAt names files fault.file fault.line fault.what
 
--- the file was taken whole, and stands for no labels of n states
-pub record TakesOtherLab (n : ℕ) (name : List ℕ) (files : Option (List Pair)) : Type 0 where
-  pub bytes : List ℕ
-  pub is_file : IsFile name files bytes
-  pub within : length bytes ≤ file_limit
-  pub other : (lab : LabLists) → ¬ IsPlainLab n bytes lab
+-- the name at a place among those that are declared
+abbrev pub name_at : List (List ℕ) → ℕ → List ℕ
+name_at names label = slice_index_or names label []
 
--- the first name that is declared
-abbrev pub first_name : List (List ℕ) → List ℕ
-first_name names = slice_index_or names 0 []
-
--- the formulas were read to their end, and are this one over the declared name
-pub record TakesFormula (name : List ℕ) (before now : Option (List ℕ)) (formula : PlainFormula) : Type 0 where
+-- the formulas were read to their end, and are this one over the declared name at this place
+pub record TakesFormula (names : List (List ℕ)) (before now : Option (List ℕ)) (label : ℕ) (formula : PlainFormula) : Type 0 where
   pub bytes : List ℕ
   pub taken : Consumes before now bytes
   pub within : length bytes ≤ formulas_limit
   pub end : IsAtEnd now
-  pub plain : IsPlainFormula name bytes formula
+  pub declared : label < length names
+  pub plain : IsPlainFormula (name_at names label) bytes formula
 
 -- the formulas were read to their end, and are no such formula
-pub record TakesOtherFormula (name : List ℕ) (before now : Option (List ℕ)) : Type 0 where
+pub record TakesOtherFormula (names : List (List ℕ)) (before now : Option (List ℕ)) : Type 0 where
   pub bytes : List ℕ
   pub taken : Consumes before now bytes
   pub within : length bytes ≤ formulas_limit
   pub end : IsAtEnd now
-  pub other : (formula : PlainFormula) → ¬ IsPlainFormula name bytes formula
+  pub other : (label : ℕ) (formula : PlainFormula) → label < length names → ¬ IsPlainFormula (name_at names label) bytes formula
 
 -- one byte more than the limit was read of the formulas
 pub record TakesTooMuch (before now : Option (List ℕ)) : Type 0 where
@@ -123,43 +150,38 @@ pub record TakesTooMuch (before now : Option (List ℕ)) : Type 0 where
 abbrev pub tra_chain : TraLists → Chain
 tra_chain tra = chain_of tra.n tra.rates
 
--- the states that have the declared label
-abbrev pub lab_goal : LabLists → ℕ → Bool
-lab_goal lab = has_label lab.marks 0
+-- the states that have the label
+abbrev pub lab_goal : LabLists → ℕ → ℕ → Bool
+lab_goal lab label = has_label lab.marks label
 
 -- all was read, and these are the formula's text, its horizon and the answers at the states
 pub record IsAnswered (names : FileNames) (files : Option (List Pair)) (before now : Option (List ℕ)) (text : List ℕ) (horizon : Option ℕ) (states : List StateAnswer) : Type 0 where
   pub model : TakesModel names files
+  pub label : ℕ
   pub formula : PlainFormula
-  pub takes_formula : TakesFormula (first_name model.lab.names) before now formula
-  pub is_text : text ≡ formula_text (first_name model.lab.names) formula
-  pub are_states : formula_answer (tra_chain model.tra) model.tra.scale (lab_goal model.lab) formula ≡ Answers horizon states
+  pub takes_formula : TakesFormula model.lab.names before now label formula
+  pub is_text : text ≡ formula_text (name_at model.lab.names label) formula
+  pub are_states : formula_answer (tra_chain model.tra) model.tra.scale (lab_goal model.lab label) formula ≡ Answers horizon states
 
 -- all was read, and this is why the formula is refused
 pub record IsRefused (names : FileNames) (files : Option (List Pair)) (before now : Option (List ℕ)) (refusal : Refusal) : Type 0 where
   pub model : TakesModel names files
+  pub label : ℕ
   pub formula : PlainFormula
-  pub takes_formula : TakesFormula (first_name model.lab.names) before now formula
-  pub is_refusal : formula_answer (tra_chain model.tra) model.tra.scale (lab_goal model.lab) formula ≡ Refuses refusal
+  pub takes_formula : TakesFormula model.lab.names before now label formula
+  pub is_refusal : formula_answer (tra_chain model.tra) model.tra.scale (lab_goal model.lab label) formula ≡ Refuses refusal
 
--- too much was read of the formulas, or they are no formula of the plain form
-abbrev pub IsOtherInput : List ℕ → Option (List ℕ) → Option (List ℕ) → Type 0
-IsOtherInput name before now = TakesTooMuch before now ⊎ TakesOtherFormula name before now
+-- too much was read of the formulas, or they are no formula of the plain form over a declared name
+abbrev pub IsOtherInput : List (List ℕ) → Option (List ℕ) → Option (List ℕ) → Type 0
+IsOtherInput names before now = TakesTooMuch before now ⊎ TakesOtherFormula names before now
 
--- the file of the labels isn't of the plain form, or has too many bytes
-abbrev pub IsFileNotBuilt : FileNames → Option (List Pair) → Part → Type 0
-IsFileNotBuilt names files LabFile =
-    (tra : TraLists) × TakesTra names.tra files tra × (IsTooBig names.lab files ⊎ TakesOtherLab tra.n names.lab files)
-IsFileNotBuilt names files Formula = ⊥
-
--- both files stand for a model, and the formulas are not of the plain form, or have too many bytes
+-- the files stand for a model, and the formulas are not of the plain form, or have too many bytes
 pub record IsFormulaNotBuilt (names : FileNames) (files : Option (List Pair)) (before now : Option (List ℕ)) : Type 0 where
   pub model : TakesModel names files
-  pub other : IsOtherInput (first_name model.lab.names) before now
+  pub other : IsOtherInput model.lab.names before now
 
--- the first part, in the order of the labels and the formulas, that isn't built; of the formulas nothing is read before
+-- the part that isn't built: of the formulas one form is read today
 abbrev pub IsNotBuilt : FileNames → Option (List Pair) → Option (List ℕ) → Option (List ℕ) → Part → Type 0
-IsNotBuilt names files before now LabFile = IsFileNotBuilt names files LabFile × Keeps before now
 IsNotBuilt names files before now Formula = IsFormulaNotBuilt names files before now
 
 -- what is answered to a command, or where there is none
@@ -178,7 +200,6 @@ abbrev pub usage_text : List ℕ
 usage_text = codes "usage: mrmc_any (ctmc M.tra M.lab | cmrm M.tra M.lab M.rew) [--workers 1..64] [--bits 8..48] [--jumps 1..16384] [--watch 0..1000] [--state 1..65536]" ++ 10 ∷ []
 
 abbrev pub not_built_text : Part → List ℕ
-not_built_text LabFile = codes "not built lab" ++ 10 ∷ []
 not_built_text Formula = codes "not built formula" ++ 10 ∷ []
 
 -- the formula is on the first line

@@ -96,3 +96,7 @@ pub record IsUntilEnd (name bytes : List ℕ) (time : DecimalNumber) : Type 0 wh
   pub time_word : List ℕ
   pub is_time : IsDecimalWord time_word time
   pub text : IsLine (until_text name time_word) bytes
+
+-- the value that was read, which the text stands for, and none only where it stands for no value
+abbrev pub IsReading : {A : Type 0} → (A → Type 0) → Option A → Type 0
+IsReading {A} StandsFor read = MatchOption read ((value : A) → ¬ StandsFor value) StandsFor

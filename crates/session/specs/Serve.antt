@@ -5,14 +5,13 @@ use Rattle.outside.specs.Shelf.{Pair, file_named}
 use Rattle.outside.specs.Whole.{WritesFront}
 use Rattle.session.specs.Command.{FileNames, names_of}
 use Rattle.session.specs.FormulaAnswer.{IsExactAnswer, formula_horizon}
-use Rattle.session.specs.Outcome.{Outcome, IsOutcome, IsRefused, outcome_text, outcome_status, TakesModel, TakesFormula, first_name, tra_chain, lab_goal}
+use Rattle.session.specs.Outcome.{Outcome, IsOutcome, IsRefused, outcome_text, outcome_status, TakesModel, TakesFormula, name_at, tra_chain, lab_goal}
 use Rattle.session.specs.PlainFormula.{formula_text}
 use Rattle.session.specs.Report.{answer_text}
 use Rattle.session.specs.declared.plain_formula.PlainFormula.{PlainFormula}
 use Rattle.session.specs.declared.report.StateAnswer.{StateAnswer}
 use Rattle.session.specs.declared.status.Fault.TheVariants.{Read, Write}
-use Rattle.session.specs.declared.status.Part.TheVariants.{LabFile, Formula}
-use Rattle.session.specs.declared.status.ModelFault.{ModelFault}
+use Rattle.session.specs.declared.status.Part.TheVariants.{Formula}
 use Rattle.session.specs.declared.status.Which.{Which}
 use Rattle.session.specs.declared.status.Which.TheVariants as which
 use Rattle.session.specs.declared.status.Status.{Status}
@@ -35,14 +34,15 @@ pub record Settles (words : List (List ℕ)) (files : Option (List Pair)) (left_
 -- contains the probability of the formula's path, and what is said satisfied or refuted is so
 pub record AnswersExactly (names : FileNames) (files : Option (List Pair)) (left_before left_now before now : Option (List ℕ)) : Type 0 where
   pub model : TakesModel names files
+  pub label : ℕ
   pub formula : PlainFormula
-  pub takes_formula : TakesFormula (first_name model.lab.names) left_before left_now formula
+  pub takes_formula : TakesFormula model.lab.names left_before left_now label formula
   pub states : List StateAnswer
   pub printed : Appends before now
-      (answer_text (formula_text (first_name model.lab.names) formula) (formula_horizon (tra_chain model.tra) model.tra.scale formula) states)
+      (answer_text (formula_text (name_at model.lab.names label) formula) (formula_horizon (tra_chain model.tra) model.tra.scale formula) states)
   pub each_state : length states ≡ model.tra.n
   pub exact : (s : ℕ) → s < model.tra.n
-      → IsSomeAnd (slice_get states s) (IsExactAnswer (tra_chain model.tra) model.tra.scale (lab_goal model.lab) formula s)
+      → IsSomeAnd (slice_get states s) (IsExactAnswer (tra_chain model.tra) model.tra.scale (lab_goal model.lab label) formula s)
 
 -- the formula was read, and there is a reason why it is refused
 abbrev pub RefusesFormula : FileNames → Option (List Pair) → Option (List ℕ) → Option (List ℕ) → Type 0
@@ -62,7 +62,7 @@ pub record AsksFor (names : List (List ℕ)) (old new : List (List ℕ)) : Type 
 -- the names up to that of a file
 abbrev pub names_through : Which → Option FileNames → List (List ℕ)
 names_through which.TraFile command = take 1 (names_of command)
-names_through which.LabFile command = names_of command
+names_through which.LabFile command = take 2 (names_of command)
 names_through which.RewFile command = names_of command
 
 -- the names that were asked for, where all was taken that the status needs
@@ -71,7 +71,6 @@ AsksBy Done command old new = new ≡ old ++ names_of command
 AsksBy Refused command old new = new ≡ old ++ names_of command
 AsksBy Usage command old new = new ≡ old
 AsksBy (Model fault) command old new = new ≡ old ++ names_through fault.file command
-AsksBy (NotBuilt LabFile) command old new = new ≡ old ++ names_of command
 AsksBy (NotBuilt Formula) command old new = new ≡ old ++ names_of command
 AsksBy (Outside fault) command old new = AsksFor (names_of command) old new
 AsksBy Memory command old new = AsksFor (names_of command) old new
@@ -97,7 +96,8 @@ IsLostOr Usage P = P
 IsLostOr (Model fault) P = P
 IsLostOr (NotBuilt part) P = P
 
--- both files are there
+-- all files of the command are there
 pub record AreThere (names : FileNames) (pairs : List Pair) : Type 0 where
   pub tra : IsSome (file_named names.tra pairs)
   pub lab : IsSome (file_named names.lab pairs)
+  pub rew : IfSome names.rew (λ name. IsSome (file_named name pairs))

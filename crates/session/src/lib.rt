@@ -6,7 +6,6 @@ mod fault_line;
 mod mix_columns;
 mod nested_verdict;
 mod plain_formula;
-mod plain_lab;
 mod plain_text;
 mod reading;
 mod report;

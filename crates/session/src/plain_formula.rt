@@ -1,13 +1,15 @@
 // The plain formula input.
-ghost use Rattle.std.specs.Prelude.{◌≡◌, ◌≢◌, ℕ, ◌<◌, ◌≤◌, ◌^◌, List, ◌∷◌, ◌++◌, codes, IsTrue, ◌↔◌, IfOk, OnOk, MatchOption};
+ghost use Rattle.std.specs.Prelude.{◌≡◌, ◌≢◌, ℕ, ◌<◌, ◌≤◌, ◌^◌, List, ◌∷◌, ◌++◌, length, codes, IsTrue, ◌↔◌, IfOk, OnOk, MatchOption};
 ghost use Rattle.decimal_text.specs.Text.{canonical_text};
 ghost use Rattle.decimal_text.specs.DecimalNumber.{DecimalNumber};
-ghost use Rattle.session.specs.PlainText.{IsReading};
+ghost use Rattle.session.specs.PlainFormula.{IsReading};
+ghost use Rattle.session.specs.Reading.{IsNamedReading};
 ghost use Rattle.session.specs.PlainFormula.{op_text, next_text, formula_text, IsDecimalWord, IsThresholdWord, IsLine, IsPlainFormula, IsLongestOp, IsNumberTaken, IsUntilEnd};
 
 use crate::plain_text::{LINE_END, take_literal, take_until};
 use decimal_text::{Decimal, print, read};
 use std::alloc::{AllocError, Global};
+use text_lines::Name;
 
 /// The comparison of a probability with a threshold.
 #[derive(Clone, Copy, Debug, PartialEq, Eq)]
@@ -31,7 +33,7 @@ impl Op {
     }
 }
 
-/// A formula over the declared name.
+/// A formula over a declared name.
 #[derive(Clone, Copy, Debug, PartialEq, Eq)]
 pub(crate) enum PlainFormula {
     /// The next state has the name, with a probability that compares so with the threshold.
@@ -63,6 +65,29 @@ impl PlainFormula {
         text.push(b']')?;
         Ok(text)
     }
+}
+
+/// A formula and the place of its name among those that are declared, from 0.
+#[derive(Clone, Copy, Debug, PartialEq, Eq)]
+pub(crate) struct NamedFormula {
+    pub(crate) label: u32,
+    pub(crate) formula: PlainFormula,
+}
+
+/// The formula over one of the declared names that the bytes of a plain formula input are, None where they are none.
+pub(crate) fn read_named_formula(bytes: &[u8], names: &[Name]) -> Option<NamedFormula>
+    requires few { length names.now ≤ 64 }
+    ensures { IsNamedReading names.now bytes.now result }
+{
+    for (label, name) in names.iter().enumerate() {
+        if let Some(formula) = read_plain_formula(bytes, name.bytes()) {
+            return Some(NamedFormula {
+                label: label as u32,
+                formula,
+            });
+        }
+    }
+    None
 }
 
 /// The formula over the declared name that the bytes of a plain formula input are, None where they are none.

@@ -1,30 +1,31 @@
 // What is answered to the words, the files and the formulas.
-ghost use Rattle.std.specs.Prelude.{◌≡◌, ℕ, ◌⊎◌, List, [], ◌∷◌, ◌++◌, map, string_bytes, length, IfOk, IfSome, IsErr, IsErrOf, IsNone, IsSomeAnd, ◌≤◌, All};
+ghost use Rattle.std.specs.Prelude.{◌≡◌, ℕ, ◌⊎◌, List, [], ◌∷◌, ◌++◌, map, string_bytes, length, IfOk, IfSome, IsErr, IsErrOf, IsNone, IsSomeAnd, ◌<◌, ◌≤◌, All};
 ghost use Rattle.ctmc_semantics.specs.Fraction.{decimal_fraction};
 ghost use Rattle.ctmc_semantics.specs.Weights.{mode, horizon};
 ghost use Rattle.model_core.specs.Model.{has_label, model_chain};
 ghost use Rattle.outside.specs.Causes.{Rose};
-ghost use Rattle.session.specs.Command.{file_names, command_of};
+ghost use Rattle.session.specs.Command.{FileNames, file_names, name_in, command_of};
 ghost use Rattle.session.specs.Outcome.{IsOutcome, TakesModel, outcome_status};
 ghost use Rattle.session.specs.PlainFormula.{comparison_of};
 ghost use Rattle.session.specs.Report.{IsPrintable};
 ghost use Rattle.session.specs.UntilAnswer.{until_answers, until_bits};
-ghost use Rattle.session.specs.Reading.{outcome_of, IsWritable, IsFileReading, IsTraReading, IsLabReading, IsModelReading, IsFormulaReading, AsksForFile, AsksForModel, AsksForReply, IsFormulaOutcome, IsAnswerTo};
+ghost use Rattle.session.specs.Reading.{outcome_of, IsWritable, IsFileReading, IsTraReading, IsLabReading, IsRewReading, IsModelReading, IsFormulaReading, AsksForFile, AsksForRew, AsksForModel, AsksForReply, IsFormulaOutcome, IsAnswerTo};
 
-use crate::command::read_words;
+use crate::command::{Command, read_words};
 use crate::nested_verdict::check_next;
-use crate::plain_formula::{Op, PlainFormula, read_plain_formula};
-use crate::plain_lab::read_plain_lab;
+use crate::plain_formula::{NamedFormula, Op, PlainFormula, read_named_formula};
 use crate::report::StateAnswer;
 use crate::uniformise::{Refusal, TimeBound, time_bound};
 use crate::until_plan::plan_until;
 use crate::until_states::check_until;
 use crate::{ModelFault, Part, Status, Which};
 use decimal_text::Decimal;
-use model_core::{Lab, Model, Tra};
+use lab_reader::read_lab;
+use model_core::{Lab, Model, Rew, Tra};
 use outside::{Files, Source, TakeFault, read_whole};
+use rew_reader::read_rew;
 use std::alloc::{AllocError, Global};
-use text_lines::{FileFault, FileWhat, ReadFault};
+use text_lines::{FileFault, FileWhat, Name, ReadFault};
 use tra_reader::read_tra;
 
 /// What is written out.
@@ -77,13 +78,18 @@ impl From<AllocError> for Stop {
     }
 }
 
-/// A model, or the first file that has a fault or isn't of the plain form.
+/// A model, or what is wrong with the first file that has a fault.
 #[derive(Drop)]
 pub(crate) enum ModelReading {
     Built(Model),
     Faulty(ModelFault),
-    NotBuilt(Part),
 }
+
+// A file of more than 64 MiB is refused at no line.
+const TOO_BIG: FileFault = FileFault {
+    line: 0,
+    what: FileWhat::TooBig,
+};
 
 // 1 MiB.
 const FORMULAS_LIMIT: usize = 1_048_576;
@@ -106,52 +112,48 @@ pub(crate) fn read_reply<F: Files, S: Source>(
     ensures files_later { F.fault_count files.old ≤ F.fault_count files.new }
     ensures formulas_later { S.fault_count formulas.old ≤ S.fault_count formulas.new }
 {
-    let Some((tra, lab)) = read_words(words) else {
+    let Some(command) = read_words(words) else {
         return Ok(Reply::Usage);
     };
-    match read_model(alloc, files, tra, lab)? {
+    match read_model(alloc, files, command)? {
         ModelReading::Faulty(fault) => Ok(Reply::Faulty(fault)),
-        ModelReading::NotBuilt(part) => Ok(Reply::NotBuilt(part)),
         ModelReading::Built(model) => answer_formula(alloc, &model, formulas),
     }
 }
 
-// Answers the formula over the one label of the model.
+// Answers the formula over the model.
 fn answer_formula<S: Source>(alloc: Global, model: &Model, formulas: &mut S) -> Result<Reply, Stop>
-    requires { length model.now.names ≡ 1 }
     ensures reply { IfOk result (λ reply. IsFormulaOutcome model.now (S.left formulas.old) (S.left formulas.new) (outcome_of reply)) }
     ensures writable { IfOk result IsWritable }
     ensures read { IsErrOf result Stop.Read → Rose (S.fault_count formulas.old) (S.fault_count formulas.new) }
     ensures later { S.fault_count formulas.old ≤ S.fault_count formulas.new }
 {
-    let name = model.labels()[0].bytes();
-    match read_formula(alloc, formulas, name)? {
-        Some(formula) => Ok(make_reply(alloc, model, name, formula)?),
+    match read_formula(alloc, formulas, model.labels())? {
+        Some(named) => Ok(make_reply(alloc, model, named)?),
         None => Ok(Reply::NotBuilt(Part::Formula)),
     }
 }
 
-// Answers the formula over the one label of the model, whose name is given.
-fn make_reply(
-    alloc: Global,
-    model: &Model,
-    name: &[u8],
-    formula: PlainFormula,
-) -> Result<Reply, AllocError>
-    requires { length model.now.names ≡ 1 }
-    ensures reply { IfOk result (λ reply. IsAnswerTo model.now name.now formula (outcome_of reply)) }
+// Answers the formula over one of the model's labels.
+fn make_reply(alloc: Global, model: &Model, named: NamedFormula) -> Result<Reply, AllocError>
+    requires { named.label < length model.now.names }
+    ensures reply { IfOk result (λ reply. IsAnswerTo model.now named (outcome_of reply)) }
     ensures writable { IfOk result IsWritable }
 {
+    let NamedFormula { label, formula } = named;
     let (horizon, states) = match formula {
-        PlainFormula::Next(op, threshold) => (None, check_next(alloc, model, 0, op, threshold)?),
+        PlainFormula::Next(op, threshold) => {
+            (None, check_next(alloc, model, label, op, threshold)?)
+        }
         PlainFormula::Until(op, threshold, time) => match time_bound(model, time) {
             Err(refusal) => return Ok(Reply::Refused(refusal)),
             Ok(bound) => {
-                let states = answer_until(alloc, model, bound, op, threshold)?;
+                let states = answer_until(alloc, model, label, bound, op, threshold)?;
                 (Some(bound.last), states)
             }
         },
     };
+    let name = model.labels()[label as usize].bytes();
     let formula = formula.text(alloc, name)?;
     Ok(Reply::Answer(Answer {
         formula,
@@ -160,48 +162,53 @@ fn make_reply(
     }))
 }
 
-// Answers the until over the one label of the model, by a plan for its time bound.
+// Answers the until over one of the model's labels, by a plan for its time bound.
 fn answer_until(
     alloc: Global,
     model: &Model,
+    label: u32,
     bound: TimeBound,
     op: Op,
     threshold: Decimal,
 ) -> Result<Vec<StateAnswer>, AllocError>
-    requires name { length model.now.names ≡ 1 }
+    requires label { label < length model.now.names }
     requires last { bound.last ≡ horizon bound.load until_bits }
     requires few { bound.last ≤ 16384 }
     requires has_mode { mode bound.load ≤ bound.last }
-    ensures answers { IfOk result (λ states. states.items ≡ until_answers (model_chain model.now) bound.load (has_label model.now.marks 0)
+    ensures answers { IfOk result (λ states. states.items ≡ until_answers (model_chain model.now) bound.load (has_label model.now.marks label)
         (comparison_of op) (decimal_fraction threshold.c threshold.x)) }
     ensures printable { IfOk result (λ states. All IsPrintable states.items) }
     ensures few { IfOk result (λ states. length states.items ≤ 65536) }
 {
-    let plan = plan_until(alloc, model, 0, &bound.load, bound.last)?;
-    check_until(alloc, model, 0, &plan, op, threshold)
+    let plan = plan_until(alloc, model, label, &bound.load, bound.last)?;
+    check_until(alloc, model, label, &plan, op, threshold)
 }
 
-// Takes and reads the two files, and builds the model.
+// Takes and reads the files, one after another, and builds the model.
 fn read_model<F: Files>(
     alloc: Global,
     files: &mut F,
-    tra: &str,
-    lab: &str,
+    command: Command<'_>,
 ) -> Result<ModelReading, Stop>
-    ensures model { IfOk result (IsModelReading (file_names tra.now lab.now) (F.files files.old)) }
+    ensures model { IfOk result (IsModelReading (file_names command.entry) (F.files files.old)) }
     ensures read { IsErrOf result Stop.Read → Rose (F.fault_count files.old) (F.fault_count files.new) }
     ensures files { F.files files.new ≡ F.files files.old }
-    ensures asked { IfSome (F.files files.old) (λ _. AsksForModel (file_names tra.now lab.now) result (F.asked files.old) (F.asked files.new)) }
+    ensures asked { IfSome (F.files files.old) (λ _. AsksForModel (file_names command.entry) result (F.asked files.old) (F.asked files.new)) }
     ensures later { F.fault_count files.old ≤ F.fault_count files.new }
 {
-    let tra = match take_tra(alloc, files, tra)? {
+    let tra = match take_tra(alloc, files, command.tra)? {
         Ok(tra) => tra,
         Err(fault) => return Ok(ModelReading::Faulty(ModelFault::of(Which::TraFile, fault))),
     };
-    let Some(lab) = take_lab(alloc, files, lab, tra.n())? else {
-        return Ok(ModelReading::NotBuilt(Part::LabFile));
+    let lab = match take_lab(alloc, files, command.lab, tra.n())? {
+        Ok(lab) => lab,
+        Err(fault) => return Ok(ModelReading::Faulty(ModelFault::of(Which::LabFile, fault))),
     };
-    let model = Model::build(alloc, tra, lab, None)?;
+    let rew = match take_rew(alloc, files, command.rew, tra.n())? {
+        Ok(rew) => rew,
+        Err(fault) => return Ok(ModelReading::Faulty(ModelFault::of(Which::RewFile, fault))),
+    };
+    let model = Model::build(alloc, tra, lab, rew)?;
     Ok(ModelReading::Built(model))
 }
 
@@ -218,10 +225,7 @@ fn take_tra<F: Files>(
     ensures later { F.fault_count files.old ≤ F.fault_count files.new }
 {
     let Some(bytes) = take_file(alloc, files, name)? else {
-        return Ok(Err(FileFault {
-            line: 0,
-            what: FileWhat::TooBig,
-        }));
+        return Ok(Err(TOO_BIG));
     };
     match read_tra(alloc, &bytes) {
         Ok(tra) => Ok(Ok(tra)),
@@ -230,7 +234,13 @@ fn take_tra<F: Files>(
     }
 }
 
-fn take_lab<F: Files>(alloc: Global, files: &mut F, name: &str, n: u32) -> Result<Option<Lab>, Stop>
+// The labels of a file over n states, or what is wrong with it.
+fn take_lab<F: Files>(
+    alloc: Global,
+    files: &mut F,
+    name: &str,
+    n: u32,
+) -> Result<Result<Lab, FileFault>, Stop>
     requires some { 1 ≤ n }
     requires few { n ≤ 65536 }
     ensures lab { IfOk result (IsLabReading n name.now (F.files files.old)) }
@@ -239,9 +249,41 @@ fn take_lab<F: Files>(alloc: Global, files: &mut F, name: &str, n: u32) -> Resul
     ensures asked { IfSome (F.files files.old) (λ _. AsksForFile name.now result (F.asked files.old) (F.asked files.new)) }
     ensures later { F.fault_count files.old ≤ F.fault_count files.new }
 {
-    match take_file(alloc, files, name)? {
-        None => Ok(None),
-        Some(bytes) => Ok(read_plain_lab(alloc, &bytes, n)?),
+    let Some(bytes) = take_file(alloc, files, name)? else {
+        return Ok(Err(TOO_BIG));
+    };
+    match read_lab(alloc, &bytes, n) {
+        Ok(lab) => Ok(Ok(lab)),
+        Err(ReadFault::At(fault)) => Ok(Err(fault)),
+        Err(ReadFault::Memory) => Err(Stop::Memory),
+    }
+}
+
+// The rewards of a file over n states, or what is wrong with it; none where there is no file.
+fn take_rew<F: Files>(
+    alloc: Global,
+    files: &mut F,
+    name: Option<&str>,
+    n: u32,
+) -> Result<Result<Option<Rew>, FileFault>, Stop>
+    requires some { 1 ≤ n }
+    requires few { n ≤ 65536 }
+    ensures rew { IfOk result (IsRewReading n (name_in name.entry) (F.files files.old)) }
+    ensures read { IsErrOf result Stop.Read → Rose (F.fault_count files.old) (F.fault_count files.new) }
+    ensures files { F.files files.new ≡ F.files files.old }
+    ensures asked { IfSome (F.files files.old) (λ _. AsksForRew (name_in name.entry) result (F.asked files.old) (F.asked files.new)) }
+    ensures later { F.fault_count files.old ≤ F.fault_count files.new }
+{
+    let Some(name) = name else {
+        return Ok(Ok(None));
+    };
+    let Some(bytes) = take_file(alloc, files, name)? else {
+        return Ok(Err(TOO_BIG));
+    };
+    match read_rew(alloc, &bytes, n) {
+        Ok(rew) => Ok(Ok(Some(rew))),
+        Err(ReadFault::At(fault)) => Ok(Err(fault)),
+        Err(ReadFault::Memory) => Err(Stop::Memory),
     }
 }
 
@@ -261,18 +303,19 @@ fn take_file<F: Files>(alloc: Global, files: &mut F, name: &str) -> Result<Optio
     }
 }
 
-// The formula, where the formulas are one plain formula over the name.
+// The formula, where the formulas are one plain formula over one of the names.
 fn read_formula<S: Source>(
     alloc: Global,
     formulas: &mut S,
-    name: &[u8],
-) -> Result<Option<PlainFormula>, Stop>
-    ensures formula { IfOk result (IsFormulaReading name.now (S.left formulas.old) (S.left formulas.new)) }
+    names: &[Name],
+) -> Result<Option<NamedFormula>, Stop>
+    requires { length names.now ≤ 64 }
+    ensures formula { IfOk result (IsFormulaReading names.now (S.left formulas.old) (S.left formulas.new)) }
     ensures read { IsErrOf result Stop.Read → Rose (S.fault_count formulas.old) (S.fault_count formulas.new) }
     ensures later { S.fault_count formulas.old ≤ S.fault_count formulas.new }
 {
     match read_whole(alloc, formulas, FORMULAS_LIMIT) {
-        Ok(text) => Ok(read_plain_formula(&text, name)),
+        Ok(text) => Ok(read_named_formula(&text, names)),
         Err(TakeFault::TooBig) => Ok(None),
         Err(TakeFault::Failed) => Err(Stop::Read),
         Err(TakeFault::Memory) => Err(Stop::Memory),

@@ -6,12 +6,10 @@ use text_lines::{FileFault, FileWhat};
 /// A part of the input, of which only a plain form is read today.
 #[derive(Clone, Copy, Debug, PartialEq, Eq)]
 pub enum Part {
-    LabFile,
     Formula,
 }
 
-/// One of the files of a model: that of the chain, of the labels, or of the rewards. Faults are told of the first alone
-/// today.
+/// One of the files of a model: that of the chain, of the labels, or of the rewards.
 #[derive(Clone, Copy, Debug, PartialEq, Eq)]
 pub enum Which {
     TraFile,
@@ -62,8 +60,7 @@ pub enum Status {
     /// This is what is wrong with the first file that has a fault; its line is written and flushed. Nothing is read of
     /// the formulas.
     Model(ModelFault),
-    /// This is the first part, in the order of the labels and the formulas, that isn't of the plain form, or that has
-    /// too many bytes. Its line is written and flushed.
+    /// The formulas aren't of the plain form, or have too many bytes. The part's line is written and flushed.
     NotBuilt(Part),
     /// The outside failed. A front of the text is written.
     Outside(Fault),

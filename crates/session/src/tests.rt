@@ -161,30 +161,118 @@ fn a_chain_of_too_many_bytes_is_refused_at_no_line(rt: HostRuntime) -> Result<()
     Ok(())
 }
 
+// Each with its first fault over three states; the chain's file is right.
 #[test]
-fn labels_that_are_not_plain_are_not_built(rt: HostRuntime) -> Result<(), Fail> {
-    let texts: [&[u8]; 15] = [
-        b"",
-        b"#DECLARATIONS\na\n#END\n2 a\n",
-        b"#DECLARATION\n\n#END\n",
-        b"#DECLARATION\n1\n#END\n2 1\n",
-        b"#DECLARATION\na b\n#END\n2 a\n",
-        b"#DECLARATION\na\nb\n#END\n2 a\n",
-        b"#DECLARATION\nquit\n#END\n2 quit\n",
-        b"#DECLARATION\na\n#EN\n2 a\n",
-        b"#DECLARATION\na\n#END\n0 a\n",
-        b"#DECLARATION\na\n#END\n4 a\n",
-        b"#DECLARATION\na\n#END\n02 a\n",
-        b"#DECLARATION\na\n#END\n2 b\n",
-        b"#DECLARATION\na\n#END\n2 a\n2 a\n",
-        b"#DECLARATION\na\n#END\n2 a\n1 a\n",
-        b"#DECLARATION\na\n#END\n2 a",
+fn a_fault_of_the_labels_is_told_at_its_line(rt: HostRuntime) -> Result<(), Fail> {
+    let texts: [(&[u8], &[u8]); 8] = [
+        (b"", b"refused lab line 1 Header\n"),
+        (b"#DECLARATION\na\n", b"refused lab line 3 Header\n"),
+        (b"#DECLARATION\n1\n#END\n", b"refused lab line 2 Name\n"),
+        (
+            b"#DECLARATION\na b\na\n#END\n",
+            b"refused lab line 3 RepeatedName\n",
+        ),
+        (
+            b"#DECLARATION\na\n#END\nx a\n",
+            b"refused lab line 4 Word\n",
+        ),
+        (
+            b"#DECLARATION\na\n#END\n4 a\n",
+            b"refused lab line 4 StateRange\n",
+        ),
+        (
+            b"#DECLARATION\na\n#END\n\n2 b\n",
+            b"refused lab line 5 Undeclared\n",
+        ),
+        (b"#DECLARATION\nquit\n#END\n", b"refused lab line 2 Name\n"),
     ];
-    for text in texts {
+    for (text, line) in texts {
         let (status, said) = answered(&rt, (TRA, text), FORMULA, 0)?;
-        assert_eq!(rt; status, Status::NotBuilt(Part::LabFile), "at {text:?}");
-        assert_eq!(rt; said.as_slice(), b"not built lab\n".as_slice());
+        assert!(rt; matches!(status, Status::Model(_)), "at {text:?}");
+        assert_eq!(rt; said.as_slice(), line);
     }
+    Ok(())
+}
+
+// The formula may name any of the declared labels; a state may have several, on several lines.
+#[test]
+fn any_declared_label_can_be_asked_for(rt: HostRuntime) -> Result<(), Fail> {
+    let lab = b"#DECLARATION\r\nup a\r\ndown\r\n#END\r\n2 a\r\n1 up\r\n2 down down\r\n3\r\n2 up";
+    let cases: [(&[u8], &[u8]); 3] = [
+        (FORMULA, ANSWER),
+        (
+            b"P{>0}[X down]",
+            b"formula P{>0}[X down]\n1 satisfied 0.300000000000 0.300000000000\n2 refuted 0.000000000000 0.000000000000\n3 refuted 0.000000000000 0.000000000000\n",
+        ),
+        (
+            b"P{>=1}[tt U[0,0] up]",
+            b"formula P{>=1}[tt U[0,0] up]\nhorizon 30\n1 satisfied 1.000000000000 1.000000000000\n2 satisfied 1.000000000000 1.000000000000\n3 refuted 0.000000000000 0.000000000932\n",
+        ),
+    ];
+    for (formula, want) in cases {
+        let (status, said) = answered(&rt, (TRA, lab), formula, 0)?;
+        assert_eq!(rt; status, Status::Done);
+        assert_eq!(rt; said.as_slice(), want);
+    }
+    let (status, _) = answered(&rt, (TRA, lab), b"P{>0}[X do]", 0)?;
+    assert_eq!(rt; status, Status::NotBuilt(Part::Formula));
+    Ok(())
+}
+
+// The file of rewards is read after the others, and nothing is asked of it yet.
+#[test]
+fn a_model_with_rewards_has_three_files(rt: HostRuntime) -> Result<(), Fail> {
+    let alloc = rt.alloc();
+    let cases: [(&[u8], &[u8]); 5] = [
+        (b"2 1.5\n1 3\n", ANSWER),
+        (b"", ANSWER),
+        (b"1 1\n1 2\n", b"refused rew line 2 Repeated\n"),
+        (b"4 1\n1\n", b"refused rew line 1 StateRange\n"),
+        (
+            b"1 922337203685477581\n2 0.1\n",
+            b"refused rew line 1 RewardScale\n",
+        ),
+    ];
+    for (rew, want) in cases {
+        let mut all = files(alloc, TRA, LAB)?;
+        all.push((String::from_str(alloc, "M.rew")?, rew.to_vec(alloc)?))?;
+        let mut shelf = SureFiles::new(all);
+        let mut source = SureSource::new(FORMULA.to_vec(alloc)?, 0);
+        let mut sink = SureSink::new(Vec::new(alloc), 0);
+        let words = words(alloc, &["mrmc_any", "cmrm", "M.tra", "M.lab", "M.rew"])?;
+        let _ = serve(
+            &rt,
+            alloc,
+            &words,
+            &mut shelf,
+            &mut source,
+            &mut sink,
+            &OpenGate,
+        );
+        assert_eq!(rt; sink.bytes(), want);
+    }
+    Ok(())
+}
+
+// The second and the third file are asked for only once the one before is read.
+#[test]
+fn a_missing_file_is_a_read_fault(rt: HostRuntime) -> Result<(), Fail> {
+    let alloc = rt.alloc();
+    let mut shelf = MemFiles::new(files(alloc, TRA, LAB)?, Vec::new(alloc));
+    let mut source = MemSource::new(FORMULA.to_vec(alloc)?, Vec::new(alloc), 0);
+    let mut sink = MemSink::new(Vec::new(alloc), Vec::new(alloc), 0);
+    let words = words(alloc, &["mrmc_any", "cmrm", "M.tra", "M.lab", "M.rew"])?;
+    let status = serve(
+        &rt,
+        alloc,
+        &words,
+        &mut shelf,
+        &mut source,
+        &mut sink,
+        &OpenGate,
+    );
+    assert_eq!(rt; status, Status::Outside(Fault::Read));
+    assert_eq!(rt; sink.bytes(), b"".as_slice());
     Ok(())
 }
 
@@ -290,11 +378,12 @@ fn a_bracket_is_rounded_outward(rt: HostRuntime) -> Result<(), Fail> {
 #[test]
 fn words_that_are_no_command_are_answered_by_the_usage(rt: HostRuntime) -> Result<(), Fail> {
     let alloc = rt.alloc();
-    let cases: [&[&str]; 7] = [
+    let cases: [&[&str]; 8] = [
         &[],
         &["mrmc_any", "ctmc", "M.tra"],
         &["mrmc_any", "cmrm", "M.tra", "M.lab"],
         &["mrmc_any", "ctmc", "M.tra", "M.lab", "M.rew"],
+        &["mrmc_any", "cmrm", "M.tra", "M.lab", "-M.rew"],
         &["mrmc_any", "ctmc", "-M.tra", "M.lab"],
         &["mrmc_any", "ctmc", "M.tra", "--help"],
         &["ctmc", "M.tra", "M.lab"],

@@ -23,8 +23,8 @@ const USAGE: &[u8] =
 
 /// Does one command: all that the program does.
 ///
-/// The words are read first, then the `.tra` and the `.lab` file that they name, then the formulas to their end, and
-/// the answer is written, one piece a line, and flushed. The words are the program's name and the arguments.
+/// The words are read first, then the files that they name, each before the next is taken, then the formulas to their
+/// end, and the answer is written, one piece a line, and flushed. The words are the program's name and the arguments.
 pub fn serve<F: Files, S: Source, K: Sink, G: Gate>(
     _rt: &(impl Threads + Sync),
     alloc: Global,
@@ -126,7 +126,6 @@ fn not_built(part: Part) -> &'static [u8]
     ensures { result.now ≡ not_built_text part }
 {
     match part {
-        Part::LabFile => b"not built lab\n",
         Part::Formula => b"not built formula\n",
     }
 }

@@ -7,5 +7,4 @@ pub mod Items
 pub mod WholeNumber
 pub mod Name
 pub mod Decimals
-pub mod UnlessMemory
 pub mod Laws

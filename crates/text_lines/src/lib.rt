@@ -3,6 +3,7 @@
 #![tactic(auto)]
 
 mod fault;
+mod filled;
 mod laws;
 mod line;
 mod name;
@@ -12,6 +13,7 @@ mod whole_number;
 mod word;
 
 pub use fault::{FileFault, FileWhat, ReadFault};
+pub use filled::{next_filled, two_words};
 pub use laws::{
     blank_line_has_blanks_alone, line_has_its_words, line_has_no_other_words, text_has_its_lines,
     text_has_its_word_lines, text_has_no_other_lines, text_has_no_other_word_lines,

@@ -1,8 +1,7 @@
 -- The reader's answer is the one that is due, unless memory ran out.
-use Rattle.std.proofs.Common.{◌≡◌, ◌∙◌, ℕ, List, Result, Ok, Err, IfOk, ap, refl}
+use Rattle.std.proofs.Common.{◌≡◌, ◌∙◌, ℕ, List, Result, Ok, Err, IfOk, ap, refl, ◌⊎◌, inl, inr}
 use Rattle.model_core.specs.Files.{TraLists}
 use Rattle.text_lines.specs.LinesOf.{end_line_of}
-use Rattle.text_lines.specs.UnlessMemory.{UnlessMemory}
 use Rattle.text_lines.specs.WordLines.{word_lines_of}
 use Rattle.text_lines.specs.declared.fault.FileFault.{FileFault}
 use Rattle.text_lines.specs.declared.fault.FileWhat.{FileWhat}
@@ -14,10 +13,10 @@ use Rattle.tra_reader.proofs.Readings.{one_tra, one_fault, no_fault}
 
 module _ (text : List ℕ) where
   pub says_exactly : (result : Result TraLists ReadFault) → IfOk result (TraSays text) → ((at : FileFault) → result ≡ Err (At at) → TraFaultAt text at.line at.what)
-      → (tra : TraLists) → TraSays text tra → UnlessMemory result (result ≡ Ok tra)
-  says_exactly (Ok found) says fault tra h = ap Ok (one_tra (word_lines_of text) found tra says h)
+      → (tra : TraLists) → TraSays text tra → (result ≡ Ok tra) ⊎ (result ≡ Err Memory)
+  says_exactly (Ok found) says fault tra h = inl (ap Ok (one_tra (word_lines_of text) found tra says h))
   says_exactly (Err (At at)) says fault tra h = absurd (no_fault (word_lines_of text) (end_line_of text) at.line tra at.what h (fault at refl))
-  says_exactly (Err Memory) says fault tra h = tt
+  says_exactly (Err Memory) says fault tra h = inr refl
 
   abbrev fault_at : ℕ → FileWhat → FileFault
   fault_at line what = record { line = line; what = what }
@@ -26,9 +25,9 @@ module _ (text : List ℕ) where
   same_fault a b p q = ap (λ k. fault_at k a.what) p ∙ ap (fault_at b.line) q
 
   pub faulty_exactly : (result : Result TraLists ReadFault) → IfOk result (TraSays text) → ((at : FileFault) → result ≡ Err (At at) → TraFaultAt text at.line at.what)
-      → (at : FileFault) → TraFaultAt text at.line at.what → UnlessMemory result (result ≡ Err (At at))
+      → (at : FileFault) → TraFaultAt text at.line at.what → (result ≡ Err (At at)) ⊎ (result ≡ Err Memory)
   faulty_exactly (Ok found) says fault at h = absurd (no_fault (word_lines_of text) (end_line_of text) at.line found at.what says h)
   faulty_exactly (Err (At found)) says fault at h =
       let same = one_fault (word_lines_of text) (end_line_of text) found.line at.line found.what at.what (fault found refl) h in
-      ap (λ f. Err (At f)) (same_fault found at same.0 same.1)
-  faulty_exactly (Err Memory) says fault at h = tt
+      inl (ap (λ f. Err (At f)) (same_fault found at same.0 same.1))
+  faulty_exactly (Err Memory) says fault at h = inr refl

@@ -2,7 +2,8 @@
 use Rattle.std.proofs.Common.{◌≡◌, ◌≢◌, ℕ, ◌<◌, ◌≤◌, ◌⊎◌, inl, inr, List, [], ◌∷◌, codes, refl, sym, ap, ◌∙◌, arith}
 use Rattle.text_lines.specs.Lines.{LineText}
 use Rattle.text_lines.specs.WordLines.{WordLine, word_line}
-use Rattle.tra_reader.specs.Reading.{line_words, SaysCount, IsCountUpTo, IsNextCount}
+use Rattle.tra_reader.specs.Reading.{SaysCount, IsCountUpTo, IsNextCount}
+use Rattle.text_lines.specs.Items.{line_words}
 use Rattle.tra_reader.specs.TraFault.{LacksCount, StatesOutOfRange, TransitionsOutOfRange, line_or_end}
 use Rattle.tra_reader.specs.declared.head.CountLine.{CountLine}
 

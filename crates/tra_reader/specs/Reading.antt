@@ -1,11 +1,8 @@
 -- What the reader's own functions say of each other.
 use Rattle.std.specs.Prelude.{◌≡◌, ℕ, ◌+◌, min, List, [], ◌∷◌, ◌++◌, ◌<◌, Option, MatchOption, length, map, AllPairs}
 use Rattle.std.specs.List.{AllZip}
-use Rattle.text_lines.specs.Items.{line_text}
 use Rattle.text_lines.specs.WholeNumber.{IsWholeNumber}
-use Rattle.text_lines.specs.WordLines.{WordLine, word_line}
-use Rattle.text_lines.specs.WordsOf.{words_of}
-use Rattle.text_lines.specs.declared.line.Line.{Line}
+use Rattle.text_lines.specs.WordLines.{WordLine}
 use Rattle.text_lines.specs.declared.fault.FileFault.{FileFault}
 use Rattle.text_lines.specs.declared.fault.FileWhat.{FileWhat}
 use Rattle.tra_reader.specs.Entries.{Entry, IsEntry, IsSamePair, HasStatePair}
@@ -18,14 +15,6 @@ use Rattle.tra_reader.specs.declared.entry.EntryLine.{EntryLine}
 use Rattle.tra_reader.specs.declared.entry.StatesWord.{StatesWord}
 use Rattle.tra_reader.specs.declared.head.CountLine.{CountLine}
 use Rattle.tra_reader.specs.declared.head.Head.{Head}
-
--- the words of a line, each by its bytes
-abbrev pub line_words : List ℕ → List (List ℕ)
-line_words line = map (λ w. w.bytes) (words_of line)
-
--- the line by its words
-abbrev pub row_of_line : Line → WordLine
-row_of_line line = word_line (line_text line)
 
 -- the line has two words, this keyword and one that writes the count
 pub record SaysCount (keyword : List ℕ) (words : List (List ℕ)) (count : ℕ) : Type 0 where

@@ -5,9 +5,8 @@ ghost use Rattle.tra_reader.specs.Reading.{IsNextEntry, StopsAt, IsBody};
 
 use crate::entry::{EntryLine, read_entry};
 use crate::head::Head;
-use crate::row::next_row;
 use std::alloc::{AllocError, Global};
-use text_lines::{FileFault, LineIter};
+use text_lines::{FileFault, LineIter, next_filled};
 
 // The transitions that were read, and why no more of them were.
 #[derive(Drop)]
@@ -46,7 +45,7 @@ pub(crate) fn read_body<'a>(
             Err(stop) => return Ok(Body { entries, stop }),
         }
     }
-    let stop = match next_row(lines) {
+    let stop = match next_filled(lines) {
         Some(line) => Stop::Further(line.number),
         None => Stop::AllRead,
     };
@@ -59,7 +58,7 @@ fn next_entry<'a>(lines: &mut LineIter<'a>, n: u32) -> Result<EntryLine, Stop>
     ensures entry { IfOk result (λ e. IsNextEntry n (word_lines_in lines.old) e (word_lines_in lines.new)) }
     ensures stop { IfErr result (λ stop. (count done : ℕ) → done < count → StopsAt n count done (word_lines_in lines.old) stop) }
 {
-    let Some(line) = next_row(lines) else {
+    let Some(line) = next_filled(lines) else {
         return Err(Stop::Missing);
     };
     match read_entry(line, n) {

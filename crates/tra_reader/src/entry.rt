@@ -1,6 +1,7 @@
 // The line of a transition.
 ghost use Rattle.std.specs.Prelude.{◌≤◌, IfOk, IfErr};
-ghost use Rattle.tra_reader.specs.Reading.{row_of_line, IsEntryLine, FailsAnyway, WritesStates};
+ghost use Rattle.tra_reader.specs.Reading.{IsEntryLine, FailsAnyway, WritesStates};
+ghost use Rattle.text_lines.specs.Items.{row_of_line};
 
 use crate::row::three_words;
 use decimal_text::read;

@@ -2,11 +2,11 @@
 ghost use Rattle.std.specs.Prelude.{◌≡◌, ◌^◌, ◌<◌, ℕ, IfOk, IfErr, MatchOption};
 ghost use Rattle.text_lines.specs.LinesOf.{end_line_of};
 ghost use Rattle.text_lines.specs.WordLines.{word_lines_in};
-ghost use Rattle.tra_reader.specs.Reading.{line_words, SaysCount, IsCountUpTo, IsNextCount, IsHead, IsFaultOf};
+ghost use Rattle.tra_reader.specs.Reading.{SaysCount, IsCountUpTo, IsNextCount, IsHead, IsFaultOf};
+ghost use Rattle.text_lines.specs.Items.{line_words};
 ghost use Rattle.tra_reader.specs.TraFault.{LacksCount};
 
-use crate::row::{next_row, two_words};
-use text_lines::{FileFault, FileWhat, LineIter, end_line, whole};
+use text_lines::{FileFault, FileWhat, LineIter, end_line, next_filled, two_words, whole};
 
 const MOST_STATES: u64 = 65_536;
 
@@ -69,7 +69,7 @@ fn next_count<'a>(
     ensures count { IfOk result (λ c. IsNextCount limit keyword.now (word_lines_in lines.old) c (word_lines_in lines.new)) }
     ensures lacking { IfErr result (λ number. LacksCount keyword.now (word_lines_in lines.old) (end_line_of bytes.now) number) }
 {
-    let Some(line) = next_row(lines) else {
+    let Some(line) = next_filled(lines) else {
         return Err(end_line(bytes));
     };
     match count_of(line.bytes, keyword, limit) {

@@ -53,6 +53,35 @@ fn rates_are_taken_at_one_scale(rt: HostRuntime) -> Result<(), Fail> {
     check_chain(&rt, rt.alloc(), text, 3, 12, &rates)
 }
 
+// Each with its decimals and its digits.
+#[test]
+fn a_rate_is_a_number_in_any_spelling(rt: HostRuntime) -> Result<(), Fail> {
+    let words: [(&[u8], u32, u64); 9] = [
+        (b"0.63", 2, 63),
+        (b"0.6321205590", 9, 632_120_559),
+        (b"1e-05", 5, 1),
+        (b"2.50E+3", 0, 2_500),
+        (b".5", 1, 5),
+        (b"7.", 0, 7),
+        (b"0.30000000000000004", 17, 30_000_000_000_000_004),
+        (b"999999999999999999", 0, 999_999_999_999_999_999),
+        (b"1e-18", 18, 1),
+    ];
+    for (word, scale, digits) in words {
+        let mut text = b"STATES 2\nTRANSITIONS 1\n1 2 ".to_vec(rt.alloc())?;
+        text.extend_from_slice(word)?;
+        check_chain(&rt, rt.alloc(), &text, 2, scale, &[(0, 1, digits)])?;
+    }
+    check_chain(
+        &rt,
+        rt.alloc(),
+        b"STATES 2\nTRANSITIONS 1\n1 2 0.000000\n",
+        2,
+        0,
+        &[],
+    )
+}
+
 #[test]
 fn blank_lines_and_leading_zeros_are_passed_over(rt: HostRuntime) -> Result<(), Fail> {
     let text =
@@ -192,7 +221,15 @@ fn each_line_is_two_states_and_a_rate(rt: HostRuntime) {
     ] {
         check_line(&rt, alloc, line, FileWhat::StateRange);
     }
-    for line in [b"1 2 x".as_slice(), b"1 2 -1", b"1 2 1\r2", b"2 1 1e"] {
+    for line in [
+        b"1 2 x".as_slice(),
+        b"1 2 -1",
+        b"1 2 1\r2",
+        b"2 1 1e",
+        b"1 2 .",
+        b"1 2 1.2.3",
+        b"1 2 nan",
+    ] {
         check_line(&rt, alloc, line, FileWhat::Number(NumberFault::NotNumber));
     }
     check_line(

@@ -1,8 +1,7 @@
 // The whole file.
 ghost use Rattle.text_lines.specs.LinesOf.{end_line_of};
-ghost use Rattle.std.specs.Prelude.{◌≡◌, ◌≤◌, length, All, IfOk, Ok, Err};
+ghost use Rattle.std.specs.Prelude.{◌≡◌, ◌⊎◌, ◌≤◌, length, All, IfOk, Ok, Err};
 ghost use Rattle.model_core.specs.Files.{TraLists};
-ghost use Rattle.text_lines.specs.UnlessMemory.{UnlessMemory};
 ghost use Rattle.text_lines.specs.WordLines.{word_lines_of};
 ghost use Rattle.tra_reader.specs.Rates.{IsKept, IsChainOf, HasRateAtFault};
 ghost use Rattle.tra_reader.specs.Reading.{AreApart, IsBodyFault};
@@ -49,8 +48,9 @@ use text_lines::{FileFault, FileWhat, ReadFault, end_line, lines};
 pub fn read_tra(alloc: Global, bytes: &[u8]) -> Result<Tra, ReadFault>
     ensures value { IfOk result (λ tra. TraSays bytes.now tra) }
     ensures fault { (at : FileFault) → result ≡ Err (ReadFault.At at) → TraFaultAt bytes.now at.line at.what }
-    ensures says { (tra : TraLists) → TraSays bytes.now tra → UnlessMemory result (result ≡ Ok tra) }
-    ensures faulty { (at : FileFault) → TraFaultAt bytes.now at.line at.what → UnlessMemory result (result ≡ Err (ReadFault.At at)) }
+    ensures says { (tra : TraLists) → TraSays bytes.now tra → (result ≡ Ok tra) ⊎ (result ≡ Err ReadFault.Memory) }
+    ensures faulty { (at : FileFault) → TraFaultAt bytes.now at.line at.what
+        → (result ≡ Err (ReadFault.At at)) ⊎ (result ≡ Err ReadFault.Memory) }
 {
     read_lines(alloc, bytes)
 }

@@ -1,30 +1,61 @@
-use Rattle.session.proofs.PlainLabs.{plain_lab_marks}
-use Rattle.session.proofs.Readings.{takes_lab, model_of, told_both, asks_err, asks_both, asks_second, asks_whole}
+use Rattle.std.proofs.Common.{◌∙◌, [], ◌∷◌, subst}
+use Rattle.session.specs.Command.{rew_name, name_in}
+use Rattle.session.specs.Outcome.{TakesRew}
+use Rattle.session.proofs.Readings.{takes_tra, takes_lab, takes_rew, rew_length, told_both, asks_err, asks_whole, asks_then, asks_after, asks_front}
 use Rattle.session.proofs.reading.read_model.Goals as goal
 
 pub returns-in_err-lab-clause-asked : goal.returns-in_err-lab-clause-asked
 returns-in_err-lab-clause-asked g c =
     told_both _ _ _ _ _ c.in_ok-tra.ensures.files
-    (λ p q. asks_err _ _ _ _ c.from_residual-in_err-lab.ensures.0 (asks_second _ _ _ _ _ p q))
+    (λ p q. asks_err _ _ _ _ c.from_residual-in_err-lab.ensures.0
+    (asks_front _ (c.args.command.tra.now ∷ c.args.command.lab.now ∷ []) (rew_name (name_in c.args.command.rew)) _
+    (asks_after _ (c.args.command.tra.now ∷ []) (c.args.command.lab.now ∷ []) _ _ p q)))
     c.in_ok-tra.ensures.asked c.in_err-lab.ensures.asked
 
-pub build-requires-clause-marks : goal.build-requires-clause-marks
-build-requires-clause-marks g c =
-    let lab = takes_lab _ _ c.args.lab.now _ c.in-Ok.tra c.in-Some.lab _ c.in_ok-tra.ensures.files c.n.ensures.value c.in-Some.is c.in_ok-lab.ensures.lab in
-    plain_lab_marks _ lab.bytes c.in-Some.lab lab.plain
+pub returns-in_err-rew-clause-asked : goal.returns-in_err-rew-clause-asked
+returns-in_err-rew-clause-asked g c =
+    told_both _ _ _ _ _ (c.in_ok-lab.ensures.files ∙ c.in_ok-tra.ensures.files)
+    (λ p q. asks_err _ _ _ _ c.from_residual-in_err-rew.ensures.0
+    (asks_after _ (c.args.command.tra.now ∷ c.args.command.lab.now ∷ []) (rew_name (name_in c.args.command.rew)) _ _ p q))
+    (told_both _ _ _ _ _ c.in_ok-tra.ensures.files
+    (λ p q. asks_then _ (c.args.command.tra.now ∷ []) (c.args.command.lab.now ∷ []) _ _ p q) c.in_ok-tra.ensures.asked c.in_ok-lab.ensures.asked)
+    c.in_err-rew.ensures.asked
+
+pub build-requires-clause-rewards : goal.build-requires-clause-rewards
+build-requires-clause-rewards g c = λ rew is.
+    rew_length c.in-Ok.tra.n (name_in c.args.command.rew) (g.F.Files.files c.args.files.now) rew
+    (subst (TakesRew c.in-Ok.tra.n (name_in c.args.command.rew) (g.F.Files.files c.args.files.now)) is
+    (takes_rew _ _ _ _ c.in-Ok.tra c.in-Ok-3.rew _ (c.in_ok-lab.ensures.files ∙ c.in_ok-tra.ensures.files) c.n-2.ensures.value c.in-Ok-3.is
+    c.in_ok-rew.ensures.rew))
 
 pub returns-in_err-model-clause-asked : goal.returns-in_err-model-clause-asked
 returns-in_err-model-clause-asked g c =
-    told_both _ _ _ _ _ c.in_ok-tra.ensures.files
-    (λ p q. asks_err _ _ _ _ c.from_residual-in_err-model.ensures.0 (asks_whole _ _ _ _ (asks_both _ _ _ _ _ p q)))
-    c.in_ok-tra.ensures.asked c.in_ok-lab.ensures.asked
+    told_both _ _ _ _ _ (c.in_ok-lab.ensures.files ∙ c.in_ok-tra.ensures.files)
+    (λ p q. asks_err _ _ _ _ c.from_residual-in_err-model.ensures.0
+    (asks_whole _ _ _ (asks_then _ (c.args.command.tra.now ∷ c.args.command.lab.now ∷ []) (rew_name (name_in c.args.command.rew)) _ _ p q)))
+    (told_both _ _ _ _ _ c.in_ok-tra.ensures.files
+    (λ p q. asks_then _ (c.args.command.tra.now ∷ []) (c.args.command.lab.now ∷ []) _ _ p q) c.in_ok-tra.ensures.asked c.in_ok-lab.ensures.asked)
+    c.in_ok-rew.ensures.asked
 
 pub returns-clause-model : goal.returns-clause-model
-returns-clause-model g c =
-    model_of _ _ c.in-Ok.tra c.in-Some.lab _ _ c.in-Ok.is c.in_ok-tra.ensures.tra
-    (takes_lab _ _ c.args.lab.now _ c.in-Ok.tra c.in-Some.lab _ c.in_ok-tra.ensures.files c.n.ensures.value c.in-Some.is c.in_ok-lab.ensures.lab)
-    c.in_ok-model.ensures.built
+returns-clause-model g c = record {
+  takes = record {
+    tra = c.in-Ok.tra;
+    lab = c.in-Ok-2.lab;
+    rew = c.in-Ok-3.rew;
+    takes_tra = takes_tra _ _ c.in-Ok.tra _ c.in-Ok.is c.in_ok-tra.ensures.tra;
+    takes_lab = takes_lab _ _ _ _ c.in-Ok.tra c.in-Ok-2.lab _ c.in_ok-tra.ensures.files c.n.ensures.value c.in-Ok-2.is c.in_ok-lab.ensures.lab;
+    takes_rew =
+        takes_rew _ _ _ _ c.in-Ok.tra c.in-Ok-3.rew _ (c.in_ok-lab.ensures.files ∙ c.in_ok-tra.ensures.files) c.n-2.ensures.value c.in-Ok-3.is
+        c.in_ok-rew.ensures.rew;
+  };
+  built = c.in_ok-model.ensures.built;
+}
 
 pub returns-clause-asked : goal.returns-clause-asked
 returns-clause-asked g c =
-    told_both _ _ _ _ _ c.in_ok-tra.ensures.files (λ p q. asks_both _ _ _ _ _ p q) c.in_ok-tra.ensures.asked c.in_ok-lab.ensures.asked
+    told_both _ _ _ _ _ (c.in_ok-lab.ensures.files ∙ c.in_ok-tra.ensures.files)
+    (λ p q. asks_then _ (c.args.command.tra.now ∷ c.args.command.lab.now ∷ []) (rew_name (name_in c.args.command.rew)) _ _ p q)
+    (told_both _ _ _ _ _ c.in_ok-tra.ensures.files
+    (λ p q. asks_then _ (c.args.command.tra.now ∷ []) (c.args.command.lab.now ∷ []) _ _ p q) c.in_ok-tra.ensures.asked c.in_ok-lab.ensures.asked)
+    c.in_ok-rew.ensures.asked

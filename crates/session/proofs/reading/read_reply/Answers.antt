@@ -6,7 +6,7 @@ use Rattle.session.proofs.reading.read_reply.Goals as goal
 
 pub returns-in-Built-clause-outcome : goal.returns-in-Built-clause-outcome
 returns-in-Built-clause-outcome g c =
-    let names : FileNames = file_names c.in-Some.tra.now c.in-Some.lab.now in
+    let names : FileNames = file_names c.in-Some.command in
     let files = g.F.Files.files c.args.files.now in
     reply_outcome names files (g.S.Source.left c.args.formulas.now) (g.S.Source.left c.answer_formula.new.formulas) c.in-Built.model
     (subst (IsModelReading names files) c.in-Built.is c.in_ok-fault.ensures.model)
@@ -14,7 +14,7 @@ returns-in-Built-clause-outcome g c =
 
 pub returns-in-Built-clause-asked : goal.returns-in-Built-clause-asked
 returns-in-Built-clause-asked g c =
-    let names : FileNames = file_names c.in-Some.tra.now c.in-Some.lab.now in
+    let names : FileNames = file_names c.in-Some.command in
     let files = g.F.Files.files c.args.files.now in
     let old = g.F.Files.asked c.args.files.now in
     let new = g.F.Files.asked c.read_model.new.files in

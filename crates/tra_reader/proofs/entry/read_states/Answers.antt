@@ -1,7 +1,7 @@
 use Rattle.std.proofs.Common.{◌+◌, ◌≤◌, min, ap, ◌∙◌, arith}
 use Rattle.text_lines.specs.WholeNumber.{whole_value}
 use Rattle.tra_reader.proofs.EntryLemmas.{no-states}
-use Rattle.tra_reader.specs.Reading.{row_of_line}
+use Rattle.text_lines.specs.Items.{row_of_line}
 use Rattle.tra_reader.proofs.entry.read_states.Goals as goal
 use Rattle.tra_reader.proofs.entry.read_states.Goals.{then-from-eq0-via-then-from-eq0, then-from-eq0-via-else-from-eq0+then-from-most, then-from-eq0-via-else-from-eq0+else-from-most+then-to-eq0, then-from-eq0-via-else-from-eq0+else-from-most+else-to-eq0+then-to-most}
 

@@ -1,0 +1,96 @@
+-- The declarations of a file, line by line.
+use Rattle.std.proofs.Common.{◌≡◌, ℕ, inl, inr, List, [], ◌∷◌, ◌++◌, ap, refl, sym, subst, ◌∙◌, append_assoc, append-nil}
+use Rattle.std.proofs.lemmas.List.Concat.{flat_map-append}
+use Rattle.std.proofs.lemmas.List.Elements.{All-nil, All-push}
+use Rattle.text_lines.specs.WordLines.{WordLine}
+use Rattle.text_lines.specs.declared.fault.FileWhat.{FileWhat}
+use Rattle.text_lines.specs.declared.fault.FileWhat.TheVariants as what
+use Rattle.text_lines.specs.declared.fault.ReadFault.{ReadFault}
+use Rattle.text_lines.specs.declared.fault.ReadFault.TheVariants.{At, Memory}
+use Rattle.lab_reader.specs.Declarations.{IsOpening, IsClosing, AreNames, words_in, Declares}
+use Rattle.lab_reader.specs.LabFault.{HasFailingName, NameFailsBy, LinesHaveFault}
+use Rattle.lab_reader.specs.Reading.{IsFaultBy, HasNames, HasFailingWord}
+use Rattle.lab_reader.proofs.Declared.{names_none}
+
+-- a fault that holds in one way holds in a weaker way
+pub fault_weaker : (Holds Follows : ℕ → FileWhat → Type 0) (fault : ReadFault) → ((number : ℕ) (w : FileWhat) → Holds number w → Follows number w) → IsFaultBy Holds fault → IsFaultBy Follows fault
+fault_weaker Holds Follows (At fault) weaker h = weaker fault.line fault.what h
+fault_weaker Holds Follows Memory weaker h = tt
+
+-- the opening line is there, and no name yet
+pub opened : (lines others : List WordLine) (opening : WordLine) → IsOpening opening → lines ≡ opening ∷ others → HasNames lines [] others
+opened lines others opening is e = record {
+  declarations = [];
+  begins = record { opening = opening; is_opening = is; split = e; not_closing = All-nil (λ line. ¬ IsClosing line); names = names_none };
+  are = refl;
+}
+
+-- it isn't, and this is a fault
+pub no_line : (n : ℕ) (lines : List WordLine) (end : ℕ) → lines ≡ [] → LinesHaveFault n lines end end what.Header
+no_line n lines end none = inl (record { none = none; here = refl })
+
+pub not_opened : (n : ℕ) (lines others : List WordLine) (first : WordLine) (end : ℕ) → ¬ IsOpening first → lines ≡ first ∷ others → LinesHaveFault n lines end first.number what.Header
+not_opened n lines others first end other e = inr (inl (record { first = first; others = others; split = e; other = other; here = refl }))
+
+-- one line of declarations more
+pub names_line : (lines : List WordLine) (names now : List (List ℕ)) (line : WordLine) (others : List WordLine) → HasNames lines names (line ∷ others) → ¬ IsClosing line → now ≡ names ++ line.words → AreNames now → HasNames lines now others
+names_line lines names now line others h other e right =
+    let words : now ≡ words_in (h.declarations ++ line ∷ []) =
+    e ∙ ap (λ z. z ++ line.words) h.are
+    ∙ ap (λ z. words_in h.declarations ++ z) (sym (append-nil line.words))
+    ∙ sym (flat_map-append (λ (l : WordLine). l.words) h.declarations (line ∷ []))
+    in
+    record {
+      declarations = h.declarations ++ line ∷ [];
+      begins = record {
+        opening = h.begins.opening;
+        is_opening = h.begins.is_opening;
+        split = h.begins.split ∙ ap (λ z. h.begins.opening ∷ z) (sym (append_assoc h.declarations (line ∷ []) others));
+        not_closing = All-push (λ l. ¬ IsClosing l) h.declarations line h.begins.not_closing other;
+        names = subst AreNames words right;
+      };
+      are = words;
+    }
+
+-- the closing line
+pub names_closed : (lines : List WordLine) (names : List (List ℕ)) (closing : WordLine) (body : List WordLine) → HasNames lines names (closing ∷ body) → IsClosing closing → Declares lines names body
+names_closed lines names closing body h is = record { declarations = h.declarations; closing = closing; begins = h.begins; is_closing = is; are = h.are }
+
+-- it is missing
+pub not_closed : (n : ℕ) (lines : List WordLine) (names : List (List ℕ)) (end : ℕ) → HasNames lines names [] → LinesHaveFault n lines end end what.Header
+not_closed n lines names end h = inr (inr (record { declarations = h.declarations; begins = h.begins; here = refl }))
+
+name_fault_holds : (n : ℕ) (lines : List WordLine) (end number : ℕ) (w : FileWhat) → HasFailingName lines number w → LinesHaveFault n lines end number w
+name_fault_holds n lines end number what.Name h = h
+name_fault_holds n lines end number what.RepeatedName h = h
+name_fault_holds n lines end number what.LabelsRange h = h
+name_fault_holds n lines end number what.Header h = absurd h.fails
+name_fault_holds n lines end number what.StatesRange h = absurd h.fails
+name_fault_holds n lines end number what.TransitionsRange h = absurd h.fails
+name_fault_holds n lines end number what.Word h = absurd h.fails
+name_fault_holds n lines end number what.StateRange h = absurd h.fails
+name_fault_holds n lines end number (what.Number fault) h = absurd h.fails
+name_fault_holds n lines end number what.Count h = absurd h.fails
+name_fault_holds n lines end number what.Repeated h = absurd h.fails
+name_fault_holds n lines end number what.RateRange h = absurd h.fails
+name_fault_holds n lines end number what.Undeclared h = absurd h.fails
+name_fault_holds n lines end number what.RewardScale h = absurd h.fails
+name_fault_holds n lines end number what.TooBig h = absurd h.fails
+name_fault_holds n lines end number what.WatchState h = absurd h.fails
+
+-- a word of the next line can't be declared
+pub failing_name : (n : ℕ) (lines : List WordLine) (end : ℕ) (names : List (List ℕ)) (line : WordLine) (more : List WordLine) (w : FileWhat) → HasNames lines names (line ∷ more) → ¬ IsClosing line → HasFailingWord names line.words w → LinesHaveFault n lines end line.number w
+failing_name n lines end names line more w h other f = name_fault_holds n lines end line.number w (record {
+  declarations = h.declarations;
+  line = line;
+  more = more;
+  begins = h.begins;
+  not_closing = other;
+  earlier = f.earlier;
+  word = f.word;
+  later = f.later;
+  words = f.split;
+  right = subst (λ z. AreNames (z ++ f.earlier)) h.are f.right;
+  fails = subst (λ z. NameFailsBy (z ++ f.earlier) f.word w) h.are f.fails;
+  here = refl;
+})

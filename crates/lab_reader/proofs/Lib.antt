@@ -1,0 +1,10 @@
+pub mod Declared
+pub mod Heads
+pub mod Masks
+pub mod Marks
+pub mod Bodies
+pub mod NameCases
+pub mod HeadCases
+pub mod LineCases
+pub mod Readings
+pub mod Outcomes

@@ -1,0 +1,10 @@
+pub mod EntryLemmas
+pub mod EntryLists
+pub mod ReadLemmas
+pub mod RewardLemmas
+pub mod FileLemmas
+pub mod EntryCases
+pub mod LineCases
+pub mod ScaleCases
+pub mod Readings
+pub mod ResultLemmas

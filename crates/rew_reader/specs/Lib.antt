@@ -1,0 +1,5 @@
+pub mod Laws
+pub mod Reading
+pub mod RewFault
+pub mod RewText
+pub mod RewardLines
