@@ -9,7 +9,8 @@ use Rattle.ctmc_semantics.specs.Sum.{sum_below}
 use Rattle.ctmc_semantics.specs.Fraction.{Fraction, fraction, ◌≼◌}
 use Rattle.ctmc_semantics.specs.Poisson.{poisson_weight, poisson_average}
 use Rattle.ctmc_semantics.specs.RoundedTables.{one_word}
-use Rattle.ctmc_semantics.specs.Weights.{mode, horizon, low_weight, high_weight}
+use Rattle.ctmc_semantics.specs.Weights.{mode, low_weight, high_weight}
+use Rattle.ctmc_semantics.specs.Horizon.{horizon}
 use Rattle.ctmc_semantics.specs.Mix.{mix_low, mix_high}
 use Rattle.ctmc_semantics.proofs.Sums.{sum_scaled, sum_scaled', term_le}
 use Rattle.ctmc_semantics.proofs.AverageLemmas.{den_positive, at_most_one, later}

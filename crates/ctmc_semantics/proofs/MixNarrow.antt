@@ -7,7 +7,8 @@ use Rattle.std.specs.Int.{div_ceil}
 use Rattle.ctmc_semantics.specs.Sum.{sum_below}
 use Rattle.ctmc_semantics.specs.Fraction.{Fraction}
 use Rattle.ctmc_semantics.specs.RoundedTables.{one_word}
-use Rattle.ctmc_semantics.specs.Weights.{horizon, low_weight, high_weight}
+use Rattle.ctmc_semantics.specs.Weights.{low_weight, high_weight}
+use Rattle.ctmc_semantics.specs.Horizon.{horizon}
 use Rattle.ctmc_semantics.specs.Mix.{mix_low, mix_high}
 use Rattle.ctmc_semantics.proofs.Sums.{sum_below-le, sum_below-same}
 use Rattle.ctmc_semantics.proofs.OneStep.{le_ceil, ceil_le}

@@ -6,7 +6,8 @@ use Rattle.ctmc_semantics.specs.Sum.{sum_below}
 use Rattle.ctmc_semantics.specs.Fraction.{◌≈◌}
 use Rattle.ctmc_semantics.specs.Rows.{Rows, IsRowsOf}
 use Rattle.ctmc_semantics.specs.Jumps.{Jumps, IsStochastic}
-use Rattle.ctmc_semantics.specs.JumpValue.{jump_fraction, jump_value, GrowsTo}
+use Rattle.ctmc_semantics.specs.JumpValue.{jump_fraction, jump_value}
+use Rattle.ctmc_semantics.specs.Sets.{IsSubset}
 use Rattle.ctmc_semantics.proofs.JumpsRise.{weighted-at_most, jump_value_capped}
 
 same_scaled : (n b b' p p' : ℕ) (w w' v v' : ℕ → ℕ)
@@ -80,7 +81,7 @@ cases_grow false false true true q x x' u v h k = k
 cases_grow false false true false q x x' u v h k = absurd (false≢true (v refl))
 cases_grow false false false l' q x x' u v h k = omega arith
 
-pub values_grow : (j : Jumps) → IsStochastic j → (live live' goal goal' : ℕ → Bool) → GrowsTo live live' → GrowsTo goal goal'
+pub values_grow : (j : Jumps) → IsStochastic j → (live live' goal goal' : ℕ → Bool) → IsSubset live live' → IsSubset goal goal'
     → (k s : ℕ) → s < j.states → jump_value j live goal k s ≤ jump_value j live' goal' k s
 values_grow j h live live' goal goal' u v zero s l = start_grow (goal s) (goal' s) (v s)
   where

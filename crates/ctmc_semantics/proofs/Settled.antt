@@ -11,9 +11,9 @@ use Rattle.ctmc_semantics.specs.Bracket.{ContainsFrom, ContainsLimit}
 use Rattle.ctmc_semantics.specs.Rows.{Rows, IsRowsOf}
 use Rattle.ctmc_semantics.specs.Reach.{ReachesBack}
 use Rattle.ctmc_semantics.specs.RoundedTables.{one_word}
-use Rattle.ctmc_semantics.specs.Weights.{horizon}
+use Rattle.ctmc_semantics.specs.Horizon.{horizon}
 use Rattle.ctmc_semantics.specs.WordBracket.{WordBracket, word_bracket, settle, until_words, last_words}
-use Rattle.ctmc_semantics.specs.BracketLaws.{LieBetween}
+use Rattle.ctmc_semantics.specs.Sets.{KnownSets, LieBetween}
 use Rattle.ctmc_semantics.proofs.Sums.{sum_below-same, sum_below-mul}
 use Rattle.ctmc_semantics.proofs.Powers.{power_split}
 use Rattle.ctmc_semantics.proofs.SameRows.{values_grow}
@@ -80,35 +80,32 @@ goal_value : (j : Jumps) (live goal : ℕ → Bool) (s : ℕ) → IsTrue (goal s
 goal_value j live goal s h zero = goal_case (goal s) 1 0 h ∙ sym (pow-zero j.total)
 goal_value j live goal s h (suc k) = goal_case (goal s) (j.total ^ suc k) _ h
 
-pub settled_contains : (r : Rows) (j : Jumps) (load : Fraction) (bits : ℕ) (live_must live live_may goal_must goal goal_may reach : ℕ → Bool) (s : ℕ)
+pub settled_contains : (r : Rows) (j : Jumps) (load : Fraction) (bits : ℕ) (sets : KnownSets) (live goal reach : ℕ → Bool) (s : ℕ)
     → IsRowsOf r j → IsStochastic j → 0 < j.total → 0 < load.den → bits ≤ 62 → s < j.states
-    → LieBetween live_must live live_may goal_must goal goal_may → ReachesBack r live_may goal_may reach
-    → ContainsFrom
-    (word_bracket (settle (goal_must s) (reach s) (until_words r load bits live_must goal_must live_may goal_may s)))
+    → LieBetween sets live goal → ReachesBack r sets.live_may sets.goal_may reach
+    → ContainsFrom (word_bracket (settle (sets.goal_must s) (reach s) (until_words r load bits sets s)))
     (horizon load bits) (until_average j load live goal s)
-settled_contains r j load bits live_must live live_may goal_must goal goal_may reach s is stochastic some pos b inside between closed =
-    settled_cases (goal_must s) (reach s) (until_words r load bits live_must goal_must live_may goal_may s) (horizon load bits) (until_average j load live goal s)
+settled_contains r j load bits sets live goal reach s is stochastic some pos b inside between closed =
+    settled_cases (sets.goal_must s) (reach s) (until_words r load bits sets s) (horizon load bits) (until_average j load live goal s)
     (λ g. whole_average load j.total (λ k. jump_value j live goal k s) (goal_value j live goal s (between.goal_has s g)))
     (λ outside. no_average load j.total (λ k. jump_value j live goal k s)
     (λ k. omega (
       arith,
-      unreached r j is stochastic some live_may goal_may reach closed k s inside outside,
-      values_grow j stochastic live live_may goal goal_may between.live_fits between.goal_fits k s inside,
+      unreached r j is stochastic some sets.live_may sets.goal_may reach closed k s inside outside,
+      values_grow j stochastic live sets.live_may goal sets.goal_may between.live_fits between.goal_fits k s inside,
     )))
-    (mix_contains r j load bits live_must live live_may goal_must goal goal_may s is stochastic some pos b inside between)
+    (mix_contains r j load bits sets live goal s is stochastic some pos b inside between)
 
-pub settled_last_contains : (r : Rows) (j : Jumps) (last : ℕ) (live_must live live_may goal_must goal goal_may reach : ℕ → Bool) (s : ℕ)
+pub settled_last_contains : (r : Rows) (j : Jumps) (last : ℕ) (sets : KnownSets) (live goal reach : ℕ → Bool) (s : ℕ)
     → IsRowsOf r j → IsStochastic j → 0 < j.total → s < j.states
-    → LieBetween live_must live live_may goal_must goal goal_may → ReachesBack r live_may goal_may reach
-    → ContainsLimit
-    (word_bracket (settle (goal_must s) (reach s) (last_words r last live_must goal_must live_may goal_may reach s)))
-    last (jump_fraction j live goal s)
-settled_last_contains r j last live_must live live_may goal_must goal goal_may reach s is stochastic some inside between closed =
-    settled_limit_cases (goal_must s) (reach s) (last_words r last live_must goal_must live_may goal_may reach s) last (jump_fraction j live goal s)
+    → LieBetween sets live goal → ReachesBack r sets.live_may sets.goal_may reach
+    → ContainsLimit (word_bracket (settle (sets.goal_must s) (reach s) (last_words r last sets reach s))) last (jump_fraction j live goal s)
+settled_last_contains r j last sets live goal reach s is stochastic some inside between closed =
+    settled_limit_cases (sets.goal_must s) (reach s) (last_words r last sets reach s) last (jump_fraction j live goal s)
     (λ g. goal_value j live goal s (between.goal_has s g))
     (λ outside k. omega (
       arith,
-      unreached r j is stochastic some live_may goal_may reach closed k s inside outside,
-      values_grow j stochastic live live_may goal goal_may between.live_fits between.goal_fits k s inside,
+      unreached r j is stochastic some sets.live_may sets.goal_may reach closed k s inside outside,
+      values_grow j stochastic live sets.live_may goal sets.goal_may between.live_fits between.goal_fits k s inside,
     ))
-    (last_words_contain r j last live_must live live_may goal_must goal goal_may reach s is stochastic some inside between closed)
+    (last_words_contain r j last sets live goal reach s is stochastic some inside between closed)

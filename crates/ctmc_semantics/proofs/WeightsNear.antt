@@ -7,7 +7,8 @@ use Rattle.std.proofs.lemmas.Grind.{div_ceil_times}
 use Rattle.std.specs.Int.{div_ceil}
 use Rattle.ctmc_semantics.specs.Fraction.{Fraction}
 use Rattle.ctmc_semantics.specs.RoundedTables.{one_word}
-use Rattle.ctmc_semantics.specs.Weights.{mode, fine_load, low_upward, low_downward, low_weight, high_upward, high_downward, high_weight, horizon}
+use Rattle.ctmc_semantics.specs.Weights.{mode, fine_load, low_upward, low_downward, low_weight, high_upward, high_downward, high_weight}
+use Rattle.ctmc_semantics.specs.Horizon.{horizon}
 use Rattle.ctmc_semantics.proofs.OneStep.{le_ceil, ceil_le}
 use Rattle.ctmc_semantics.proofs.FineLoad.{fine_large, fine_small}
 

@@ -3,13 +3,15 @@ use Rattle.std.proofs.Common.{◌≡◌, ℕ, ◌+◌, ◌*◌, ◌^◌, ◌/◌
 use Rattle.std.specs.Int.{div_ceil}
 use Rattle.ctmc_semantics.specs.Fraction.{fraction}
 use Rattle.ctmc_semantics.specs.Chain.{Chain}
-use Rattle.ctmc_semantics.specs.Table.{table_chain, holds_at}
+use Rattle.ctmc_semantics.specs.Table.{table_chain}
+use Rattle.ctmc_semantics.specs.Sets.{holds_at, known_exactly}
 use Rattle.ctmc_semantics.specs.Uniformised.{uniform_rate, uniformised, time_load}
 use Rattle.ctmc_semantics.specs.JumpValue.{jump_fraction}
 use Rattle.ctmc_semantics.specs.Poisson.{until_average}
 use Rattle.ctmc_semantics.specs.Rows.{Rows}
 use Rattle.ctmc_semantics.specs.RoundedTables.{set_words, low_table, high_table}
-use Rattle.ctmc_semantics.specs.Weights.{horizon, low_weight, high_weight}
+use Rattle.ctmc_semantics.specs.Weights.{low_weight, high_weight}
+use Rattle.ctmc_semantics.specs.Horizon.{horizon}
 use Rattle.ctmc_semantics.specs.WordBracket.{until_words}
 
 -- ---- one way at rate 1 into the goal
@@ -24,6 +26,10 @@ second = holds_at (false ∷ true ∷ [])
 
 load_one : time_load one_way 0 1 0 ≡ fraction 1 1
 load_one = refl
+
+-- a rate of 0.1 and a time of 0.05
+load_of_tenths : time_load one_way 1 5 2 ≡ fraction 5 1000
+load_of_tenths = refl
 
 average_0 : until_average (uniformised one_way) (fraction 1 1) always second 0 0 ≡ fraction 0 1
 average_0 = refl
@@ -117,12 +123,12 @@ one_way_rows = record {
   den = λ s. 1;
 }
 
-mix_of_none : until_words one_way_rows (fraction 0 1) 30 always second always second 0 ≡ record { lower = 0; upper = 4294971421 }
+mix_of_none : until_words one_way_rows (fraction 0 1) 30 (known_exactly always second) 0 ≡ record { lower = 0; upper = 4294971421 }
 mix_of_none = refl
 
 -- at a load of 1 the words are those of 0.632120558828 and 0.632120559760
-low_mix_of_one : (until_words one_way_rows (fraction 1 1) 30 always second always second 0).lower * 10 ^ 12 / 2 ^ 62 ≡ 632120558828
+low_mix_of_one : (until_words one_way_rows (fraction 1 1) 30 (known_exactly always second) 0).lower * 10 ^ 12 / 2 ^ 62 ≡ 632120558828
 low_mix_of_one = refl
 
-high_mix_of_one : div_ceil ((until_words one_way_rows (fraction 1 1) 30 always second always second 0).upper * 10 ^ 12) (2 ^ 62) ≡ 632120559760
+high_mix_of_one : div_ceil ((until_words one_way_rows (fraction 1 1) 30 (known_exactly always second) 0).upper * 10 ^ 12) (2 ^ 62) ≡ 632120559760
 high_mix_of_one = refl

@@ -2,8 +2,10 @@ pub mod Bracket
 pub mod BracketLaws
 pub mod Chain
 pub mod Column
+pub mod Compared
 pub mod ContainsLaws
 pub mod Fraction
+pub mod Horizon
 pub mod JumpLaws
 pub mod JumpValue
 pub mod Jumps
@@ -14,13 +16,16 @@ pub mod Next
 pub mod Poisson
 pub mod PoissonLaws
 pub mod Reach
+pub mod RoundedOut
 pub mod RoundedTables
 pub mod Rows
+pub mod Sets
 pub mod Sum
 pub mod Table
 pub mod TableLaws
 pub mod Threshold
 pub mod Uniformised
+pub mod Units
 pub mod Value
 pub mod Verdict
 pub mod VerdictLaws

@@ -4,8 +4,9 @@ use Rattle.ctmc_semantics.specs.Fraction.{Fraction}
 use Rattle.ctmc_semantics.specs.Poisson.{poisson_average}
 use Rattle.ctmc_semantics.specs.Bracket.{ContainsFrom}
 use Rattle.ctmc_semantics.specs.RoundedTables.{one_word}
-use Rattle.ctmc_semantics.specs.Weights.{horizon, low_weight, high_weight}
-use Rattle.ctmc_semantics.specs.Mix.{mix_low, mix_high, slack}
+use Rattle.ctmc_semantics.specs.Weights.{low_weight, high_weight}
+use Rattle.ctmc_semantics.specs.Horizon.{horizon, greatest_width}
+use Rattle.ctmc_semantics.specs.Mix.{mix_low, mix_high}
 use Rattle.ctmc_semantics.specs.WordBracket.{word_bracket}
 
 -- where values that never fall and are at most 1 lie between the words of two columns, their averages from the horizon on lie in the mix
@@ -48,7 +49,7 @@ MixIsNarrow =
     bits ≤ 48 → last ≤ 16384
     → ((k : ℕ) → k ≤ last → low_word k ≤ one_word) → ((k : ℕ) → k ≤ last → high_word k ≤ low_word k + 2 * last)
     → mix_high last bits (low_weight load) (high_weight load) high_word
-    ≤ mix_low last (low_weight load) (high_weight load) low_word + (2 ^ (62 - bits) + slack last bits)
+    ≤ mix_low last (low_weight load) (high_weight load) low_word + greatest_width last bits
 
 -- the lower mix reads the layers 0 to n alone
 abbrev pub LowMixReads : Type 0

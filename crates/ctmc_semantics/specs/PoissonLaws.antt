@@ -3,10 +3,10 @@ use Rattle.std.specs.Prelude.{ℕ, suc, ◌+◌, ◌*◌, ◌^◌, ◌<◌, ◌�
 use Rattle.ctmc_semantics.specs.Sum.{sum_below}
 use Rattle.ctmc_semantics.specs.Fraction.{Fraction, fraction, ◌≼◌, ◌≈◌}
 use Rattle.ctmc_semantics.specs.Jumps.{Jumps, IsStochastic}
-use Rattle.ctmc_semantics.specs.JumpValue.{GrowsTo}
+use Rattle.ctmc_semantics.specs.Sets.{IsSubset}
 use Rattle.ctmc_semantics.specs.Rows.{Rows, IsRowsOf}
 use Rattle.ctmc_semantics.specs.Poisson.{poisson_weight, until_average}
-use Rattle.ctmc_semantics.specs.Weights.{horizon}
+use Rattle.ctmc_semantics.specs.Horizon.{horizon}
 use Rattle.ctmc_semantics.specs.Value.{NeverFalls, AreFractions}
 
 -- a longer cut never lowers the average
@@ -35,7 +35,7 @@ AveragesAreOfTheRows =
 abbrev pub AveragesGrow : Type 0
 AveragesGrow =
     (j : Jumps) (load : Fraction) (live live' goal goal' : ℕ → Bool) (n s : ℕ) → IsStochastic j → s < j.states
-    → GrowsTo live live' → GrowsTo goal goal' → until_average j load live goal s n ≼ until_average j load live' goal' s n
+    → IsSubset live live' → IsSubset goal goal' → until_average j load live goal s n ≼ until_average j load live' goal' s n
 
 -- the weights past the horizon, up to any n, add up to at most `2^-bits` times the sum of those up to it
 abbrev pub TailIsSmall : Type 0

@@ -4,7 +4,8 @@ use Rattle.ctmc_semantics.specs.Sum.{sum_below}
 use Rattle.ctmc_semantics.specs.Fraction.{Fraction}
 use Rattle.ctmc_semantics.specs.Poisson.{poisson_weight}
 use Rattle.ctmc_semantics.specs.RoundedTables.{one_word}
-use Rattle.ctmc_semantics.specs.Weights.{mode, horizon, low_weight, high_weight}
+use Rattle.ctmc_semantics.specs.Weights.{mode, low_weight, high_weight}
+use Rattle.ctmc_semantics.specs.Horizon.{horizon}
 
 -- over the mode's weight, the exact weight of k jumps lies between the rounded ones
 pub record LiesBetween (load : Fraction) (n k : ℕ) : Type 0 where

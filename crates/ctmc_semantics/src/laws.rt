@@ -9,7 +9,7 @@ pub mod tables;
 pub mod verdicts;
 pub mod weights;
 
-ghost use Rattle.ctmc_semantics.specs.Laws.{NextIsAtMostOne, FractionsAreOrdered, AtLeastIsNotLess, AtMostIsNotMore, ThresholdIsDecided, ThresholdReadsTheNumber};
+ghost use Rattle.ctmc_semantics.specs.Laws.{NextIsAtMostOne, FractionsAreOrdered, OppositeIsNot, TestIsRight, ThresholdIsDecided, ThresholdReadsTheNumber};
 
 /// The probability of a next operator never passes 1.
 pub fn next_is_at_most_one()
@@ -21,11 +21,15 @@ pub fn fractions_are_ordered()
     ensures { FractionsAreOrdered }
 {}
 
-/// A probability meets a threshold by `>=` exactly where it doesn't by `<`, and by `<=` exactly
-/// where it doesn't by `>`.
+/// A probability meets a threshold by the opposite of a comparison exactly where it doesn't by the
+/// comparison itself: `>=` is the opposite of `<`, and `>` of `<=`.
 pub fn comparisons_are_complements()
-    ensures at_least { AtLeastIsNotLess }
-    ensures at_most { AtMostIsNotMore }
+    ensures { OppositeIsNot }
+{}
+
+/// The test of a threshold, on whole numbers, holds exactly where the threshold is met.
+pub fn threshold_is_tested()
+    ensures { TestIsRight }
 {}
 
 /// A probability meets a threshold or it doesn't, and which one depends on its value alone.

@@ -1,5 +1,5 @@
 -- Why a call of the outside may answer a fault, and how faults are counted.
-use Rattle.std.specs.Prelude.{ℕ, ◌+◌, ◌-◌, ◌^◌, ◌≤◌, min}
+use Rattle.std.specs.Prelude.{◌≡◌, ℕ, ◌+◌, ◌-◌, ◌^◌, ◌≤◌, min}
 use Rattle.outside.specs.declared.fault.TakeFault.{TakeFault}
 use Rattle.outside.specs.declared.fault.PutFault.{PutFault}
 use Rattle.outside.specs.declared.fault.TakeFault.TheVariants as take_fault
@@ -9,14 +9,15 @@ use Rattle.outside.specs.declared.fault.PutFault.TheVariants as put_fault
 abbrev pub one_more : ℕ → ℕ
 one_more count = min (count + 1) (2 ^ 64 - 1)
 
--- the count rose, or stands at its last value
+-- the count rose by one, or stands at its last value: one call failed, and no other did
 abbrev pub Rose : ℕ → ℕ → Type 0
-Rose before now = one_more before ≤ now
+Rose before now = now ≡ one_more before
 
--- the count doesn't fall, and a fault is answered only where it rose
+-- a fault is answered where one call failed, and nowhere else: the count rises by one then, and else it stays
 pub record HasCause (before now : ℕ) (faulted : Type 0) : Type 0 where
   pub later : before ≤ now
   pub risen : faulted → Rose before now
+  pub still : ¬ faulted → now ≡ before
 
 -- the count of faults after a file wasn't taken: it counts the outside's faults alone
 abbrev pub faults_after_take : TakeFault → ℕ → ℕ

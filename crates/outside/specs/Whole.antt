@@ -1,5 +1,5 @@
 -- What is known after a text was read or written in part.
-use Rattle.std.specs.Prelude.{◌≡◌, ℕ, ◌≤◌, List, length, take, Option}
+use Rattle.std.specs.Prelude.{◌≡◌, ℕ, ◌≤◌, List, length, take, Option, IfSome}
 use Rattle.std.specs.Io.KnownBytes.{Appends, Consumes}
 
 -- so many bytes are taken, and no more
@@ -19,3 +19,7 @@ pub record WritesFront (text : List ℕ) (before now : Option (List ℕ)) : Type
   pub count : ℕ
   pub within : count ≤ length text
   pub written : Appends before now (take count text)
+
+-- all bytes that are written are flushed, where both are told
+abbrev pub AllFlushed : Option (List ℕ) → Option ℕ → Type 0
+AllFlushed written flushed = IfSome written (λ bytes. IfSome flushed (λ count. count ≡ length bytes))

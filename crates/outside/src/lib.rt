@@ -17,7 +17,7 @@ mod sure_sink;
 mod sure_source;
 mod whole;
 
-pub use disk_files::DiskFiles;
+pub use disk_files::{DiskFiles, FileFailure};
 pub use fault::{Failed, PutFault, TakeFault};
 pub use files::{FILE_LIMIT, Files};
 pub use gate::{Gate, OpenGate};

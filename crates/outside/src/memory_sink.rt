@@ -69,7 +69,7 @@ impl MemSink {
 impl Sink for MemSink {
     ghost written = { λ s. Some s.written };
 
-    ghost flushed = { λ s. s.flushed };
+    ghost flushed = { λ s. Some s.flushed };
 
     ghost fault_count = { λ s. s.faults };
 
@@ -82,7 +82,7 @@ impl Sink for MemSink {
         ensures some { IfOk result (λ count. 0 < count) }
         ensures most { IfOk result (λ count. count ≤ length piece.now) }
         ensures bytes { WriteAppends (Some self.old.written) (Some self.new.written) result piece.now }
-        ensures flushed { self.new.flushed ≡ self.old.flushed }
+        ensures flushed { Some self.new.flushed ≡ Some self.old.flushed }
         ensures cause { HasCause self.old.faults self.new.faults (IsErrOf result PutFault.Failed) }
 
         // What it does, exactly.
@@ -108,7 +108,7 @@ impl Sink for MemSink {
     fn flush(&mut self) -> Result<(), Failed>
         ensures bytes { Keeps (Some self.old.written) (Some self.new.written) }
         ensures flushed { OnOk result (self.new.flushed ≡ length self.new.written) }
-        ensures unflushed { OnErr result (self.new.flushed ≡ self.old.flushed) }
+        ensures unflushed { OnErr result (Some self.new.flushed ≡ Some self.old.flushed) }
         ensures cause { HasCause self.old.faults self.new.faults (IsErr result) }
 
         // What it does, exactly.

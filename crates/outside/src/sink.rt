@@ -2,6 +2,7 @@
 ghost use Rattle.std.specs.Prelude.{◌≡◌, ℕ, ◌<◌, ◌≤◌, List, length, Option, IfOk, OnOk, OnErr, IsErr, IsErrOf, IfSome};
 ghost use Rattle.std.specs.Io.KnownBytes.{WriteAppends, Keeps};
 ghost use Rattle.outside.specs.Causes.{HasCause};
+ghost use Rattle.outside.specs.Whole.{AllFlushed};
 
 use crate::{Failed, PutFault};
 
@@ -10,8 +11,8 @@ pub trait Sink {
     /// The bytes written so far, where the sink tells them.
     ghost written: { Self → Option (List ℕ) };
 
-    /// How many of them are flushed.
-    ghost flushed: { Self → ℕ };
+    /// How many of them are flushed, where it tells that.
+    ghost flushed: { Self → Option ℕ };
 
     /// How often a call has failed.
     ghost fault_count: { Self → ℕ };
@@ -33,7 +34,7 @@ pub trait Sink {
     /// Hands on what was written so far. `Failed` comes where the outside doesn't take it.
     fn flush(&mut self) -> Result<(), Failed>
         ensures bytes { Keeps (written self.old) (written self.new) }
-        ensures flushed { OnOk result (IfSome (written self.new) (λ bytes. flushed self.new ≡ length bytes)) }
+        ensures flushed { OnOk result (AllFlushed (written self.new) (flushed self.new)) }
         ensures err { OnErr result (flushed self.new ≡ flushed self.old) }
         ensures cause { HasCause (fault_count self.old) (fault_count self.new) (IsErr result) };
 }

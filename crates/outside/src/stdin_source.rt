@@ -1,10 +1,11 @@
 // A reader as a source.
-ghost use Rattle.std.specs.Prelude.{◌≡◌, ◌<◌, length, IsErr, MatchResult};
+ghost use Rattle.std.specs.Prelude.{◌≡◌, ◌<◌, None, length, IsErr, IsSome, OnErr, MatchResult};
 ghost use Rattle.std.specs.Io.{ReadsAtMost};
 ghost use Rattle.std.specs.Io.KnownBytes.{ReadConsumes};
 ghost use Rattle.outside.specs.Causes.{HasCause, one_more};
 
 use crate::{Failed, Source};
+use std::io;
 use std::io::Read;
 
 /// A reader as a source: standard input, or an open file. It tells of the bytes what its reader tells, and of those of
@@ -14,14 +15,26 @@ use std::io::Read;
 pub struct StdinSource<R: Read> {
     inner: R,
     faults: u64,
+    reason: Option<io::Error>,
 }
 
 impl<R: Read> StdinSource<R> {
     /// The bytes of this reader, with no fault so far.
     pub fn new(inner: R) -> Self
-        ensures { result ≡ record { inner = inner; faults = 0 } }
+        ensures { result ≡ record { inner = inner; faults = 0; reason = None } }
     {
-        StdinSource { inner, faults: 0 }
+        StdinSource {
+            inner,
+            faults: 0,
+            reason: None,
+        }
+    }
+
+    /// Why the last call that failed did so, as the reader says it; None where none has failed.
+    pub fn reason(&self) -> Option<io::Error>
+        ensures { result ≡ self.now.reason }
+    {
+        self.reason
     }
 }
 
@@ -43,11 +56,13 @@ impl<R: Read> Source for StdinSource<R> {
         // The count rises exactly at a fault.
         ensures count { MatchResult result (λ _. self.new.faults ≡ self.old.faults)
             (λ _. self.new.faults ≡ one_more self.old.faults) }
+        ensures reason { OnErr result (IsSome self.new.reason) }
     {
         match self.inner.read(buf) {
             Ok(count) => Ok(count),
-            Err(_) => {
+            Err(reason) => {
                 self.faults = self.faults.saturating_add(1);
+                self.reason = Some(reason);
                 Err(Failed)
             }
         }

@@ -1,7 +1,8 @@
 // The number of jumps to look at.
 
 ghost use Rattle.std.specs.Prelude.{◌≡◌, ◌<◌, ◌≤◌, MatchOption, IfSome};
-ghost use Rattle.ctmc_semantics.specs.Weights.{mode, horizon};
+ghost use Rattle.ctmc_semantics.specs.Weights.{mode};
+ghost use Rattle.ctmc_semantics.specs.Horizon.{horizon};
 
 use crate::load::Load;
 

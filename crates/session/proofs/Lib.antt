@@ -1,4 +1,5 @@
 pub mod CommandWords
+pub mod ExactAnswers
 pub mod FormulaNames
 pub mod Fronts
 pub mod Mixes
@@ -14,5 +15,6 @@ pub mod Readings
 pub mod Rounding
 pub mod SameTables
 pub mod Served
+pub mod SureObjects
 pub mod UniformRows
 pub mod Verdicts

@@ -7,9 +7,9 @@ use Rattle.std.proofs.lemmas.List.FromFn.{get_or-map-range_with_len, length-map-
 use Rattle.ctmc_semantics.specs.Chain.{Chain}
 use Rattle.ctmc_semantics.specs.Fraction.{Fraction}
 use Rattle.ctmc_semantics.specs.RoundedTables.{one_word, set_words}
-use Rattle.ctmc_semantics.specs.Table.{holds_at}
+use Rattle.ctmc_semantics.specs.Sets.{holds_at}
 use Rattle.ctmc_semantics.specs.Uniformised.{uniformised}
-use Rattle.ctmc_semantics.specs.Weights.{horizon}
+use Rattle.ctmc_semantics.specs.Horizon.{horizon}
 use Rattle.step_core.specs.FrameLists.{RowLists}
 use Rattle.step_core.specs.FrameRows.{StandFor}
 use Rattle.step_core.specs.PlanLists.{PlanLists}
@@ -18,7 +18,7 @@ use Rattle.step_core.specs.SoundFrame.{IsSoundRow, IsSoundFrame}
 use Rattle.step_core.specs.SoundPlan.{AreSoundWeights, IsSoundPlan}
 use Rattle.step_core.specs.WeightLists.{WeightLists}
 use Rattle.step_core.specs.declared.mix.Mix.TheVariants.{Poisson}
-use Rattle.session.specs.UntilAnswer.{until_bits}
+use Rattle.session.specs.ExactAnswer.{until_bits}
 use Rattle.session.specs.UntilPlan.{IsUntilPlan}
 
 -- ---- the plan of n states, in the lists that are built

@@ -6,7 +6,7 @@ use Rattle.ctmc_semantics.specs.Fraction.{Fraction}
 use Rattle.ctmc_semantics.specs.Mix.{mix_low, mix_high}
 use Rattle.ctmc_semantics.specs.RoundedTables.{one_word, set_words, low_table, high_table}
 use Rattle.ctmc_semantics.specs.Rows.{rows_of}
-use Rattle.ctmc_semantics.specs.Table.{holds_at}
+use Rattle.ctmc_semantics.specs.Sets.{holds_at, known_exactly}
 use Rattle.ctmc_semantics.specs.Uniformised.{uniform_rate, uniformised}
 use Rattle.ctmc_semantics.specs.Weights.{low_weight, high_weight}
 use Rattle.ctmc_semantics.specs.WordBracket.{settle, until_words}
@@ -20,7 +20,9 @@ use Rattle.step_core.specs.SoundPlan.{starts_at_one}
 use Rattle.step_core.specs.TableLists.{TableLists}
 use Rattle.step_core.specs.declared.bracket.Bracket.{Bracket}
 use Rattle.session.specs.MixColumns.{column_mixes}
-use Rattle.session.specs.UntilAnswer.{every_state, until_bits, state_words}
+use Rattle.session.specs.UntilAnswer.{state_words}
+use Rattle.session.specs.ExactAnswer.{until_bits}
+use Rattle.ctmc_semantics.specs.Sets.{every_state}
 use Rattle.session.specs.UntilPlan.{IsUntilPlan}
 use Rattle.session.proofs.SameTables.{low_of_rows, high_of_rows}
 
@@ -59,7 +61,7 @@ module _ (chain : Chain) (load : Fraction) (goal : ℕ → Bool) (plan : PlanLis
       (slice_index plan.start_upper) (set_words goal) start_is k s here
 
   lower_mix : mix_low plan.layers (slice_index is.weights.low) (slice_index is.weights.high) (λ k. slice_index (layer_at tables.low k) s)
-      ≡ (until_words (rows_of (uniformised chain)) load until_bits every_state goal every_state goal s).lower
+      ≡ (until_words (rows_of (uniformised chain)) load until_bits (known_exactly every_state goal) s).lower
   lower_mix =
       mix_low_reads plan.layers (slice_index is.weights.low) (slice_index is.weights.high) (λ k. slice_index (layer_at tables.low k) s)
       (low_weight load) (high_weight load) (λ k. low_table (rows_of (uniformised chain)) every_state goal k s)
@@ -67,7 +69,7 @@ module _ (chain : Chain) (load : Fraction) (goal : ℕ → Bool) (plan : PlanLis
       ∙ ap (λ n. mix_low n (low_weight load) (high_weight load) (λ k. low_table (rows_of (uniformised chain)) every_state goal k s)) is.fits.last_layer
 
   upper_mix : mix_high plan.layers until_bits (slice_index is.weights.low) (slice_index is.weights.high) (λ k. slice_index (layer_at tables.high k) s)
-      ≡ (until_words (rows_of (uniformised chain)) load until_bits every_state goal every_state goal s).upper
+      ≡ (until_words (rows_of (uniformised chain)) load until_bits (known_exactly every_state goal) s).upper
   upper_mix =
       mix_high_reads plan.layers until_bits (slice_index is.weights.low) (slice_index is.weights.high) (λ k. slice_index (layer_at tables.high k) s)
       (low_weight load) (high_weight load) (λ k. high_table (rows_of (uniformised chain)) every_state goal (set_words goal) k s)
@@ -83,5 +85,5 @@ module _ (chain : Chain) (load : Fraction) (goal : ℕ → Bool) (plan : PlanLis
       let same : weights ≡ is.weights = same_weights weights is.weights bits until_bits (sym mix ∙ is.is_mix) in
       let mixed : b ≡ column_mixes plan.layers until_bits is.weights tables s = e ∙ ap (λ w. column_mixes plan.layers until_bits w tables s) same in
       ap (λ l. settle (goal s) true (record { lower = l; upper = b.upper })) (ap (λ m. m.lower) mixed ∙ lower_mix)
-      ∙ ap (λ u. settle (goal s) true (record { lower = (until_words (rows_of (uniformised chain)) load until_bits every_state goal every_state goal s).lower; upper = u }))
+      ∙ ap (λ u. settle (goal s) true (record { lower = (until_words (rows_of (uniformised chain)) load until_bits (known_exactly every_state goal) s).lower; upper = u }))
       (ap (λ m. m.upper) mixed ∙ upper_mix)

@@ -13,16 +13,17 @@ use Rattle.ctmc_semantics.specs.Fraction.{Fraction, decimal_fraction}
 use Rattle.ctmc_semantics.specs.Next.{next_probability}
 use Rattle.ctmc_semantics.specs.Threshold.{Comparison}
 use Rattle.ctmc_semantics.specs.Uniformised.{time_load}
-use Rattle.ctmc_semantics.specs.Weights.{horizon}
+use Rattle.ctmc_semantics.specs.Horizon.{horizon}
 use Rattle.ctmc_semantics.proofs.Powers.{power_le}
 use Rattle.model_core.specs.declared.rate.Rate.{Rate}
 use Rattle.model_core.specs.Model.{ModelLists, has_label, model_chain}
 use Rattle.model_core.specs.Transitions.{chain_of}
 use Rattle.std.specs.List.Sorted.{IsPermutation}
 use Rattle.session.specs.Command.{FileNames, names_of}
-use Rattle.session.specs.FormulaAnswer.{FormulaAnswer, Answers, unless_refused, formula_answer, formula_horizon, formula_refusal, formula_states, IsExactAnswer}
-use Rattle.session.specs.NextAnswer.{IsExact, next_answer, next_answers}
-use Rattle.session.specs.UntilAnswer.{IsExactUntil, until_answers, until_bits, until_of, state_words, words_answer}
+use Rattle.session.specs.FormulaAnswer.{FormulaAnswer, Answers, unless_refused, formula_answer, formula_refusal, formula_states}
+use Rattle.session.specs.NextAnswer.{next_answer, next_answers}
+use Rattle.session.specs.UntilAnswer.{until_answers, state_words, words_answer}
+use Rattle.session.specs.ExactAnswer.{IsExactNext, IsExactUntil, IsExactAnswer, formula_horizon, until_bits, until_of}
 use Rattle.session.specs.Outcome.{Outcome, Usage, Faulty, NotBuilt, Refused, Answered, TakesFormula, IsOtherInput, IsOutcomeOf, name_at, tra_chain, lab_goal, outcome_text, outcome_status}
 use Rattle.session.specs.Reading.{IsModelOf, IsFormulaOutcome, IsAnswerTo, AsksForReply, model_goal, outcome_of, names_before}
 use Rattle.session.specs.PlainFormula.{formula_text, comparison_of}
@@ -44,7 +45,7 @@ use Rattle.session.specs.declared.status.Status.TheVariants as status
 use Rattle.session.proofs.Outcomes.{one_outcome, same_answers, same_horizon, answered_or_refused}
 use Rattle.session.specs.declared.plain_formula.NamedFormula.{NamedFormula}
 use Rattle.session.proofs.Readings.{asks_whole}
-use Rattle.session.proofs.Rounding.{next_answer_exact}
+use Rattle.session.proofs.ExactAnswers.{next_answer_exact}
 use Rattle.session.proofs.Verdicts.{until_exact}
 
 -- what is known of files that are told
@@ -140,18 +141,18 @@ found_at f n s states e l =
 
 next_exact_at : (chain : Chain) (goal : ℕ → Bool) (comparison : Comparison) (q : Fraction) (s : ℕ) (states : List StateAnswer)
     → states ≡ next_answers chain goal comparison q → s < chain.states
-    → IsSomeAnd (slice_get states s) (IsExact comparison (next_probability chain goal s) q)
+    → IsSomeAnd (slice_get states s) (IsExactNext comparison (next_probability chain goal s) q)
 next_exact_at chain goal comparison q s states e l =
     let p = next_probability chain goal s in
-    subst (λ o. IsSomeAnd o (IsExact comparison p q)) (sym (found_at (λ t. next_answer comparison (next_probability chain goal t) q) chain.states s states e l))
+    subst (λ o. IsSomeAnd o (IsExactNext comparison p q)) (sym (found_at (λ t. next_answer comparison (next_probability chain goal t) q) chain.states s states e l))
     (next_answer_exact comparison p q (omega arith))
 
 until_exact_at : (chain : Chain) (load : Fraction) (goal : ℕ → Bool) (comparison : Comparison) (q : Fraction) (s : ℕ) (states : List StateAnswer)
     → 0 < load.den → 0 < q.den → horizon load until_bits ≤ 16384
     → states ≡ until_answers chain load goal comparison q → s < chain.states
-    → IsSomeAnd (slice_get states s) (IsExactUntil comparison (horizon load until_bits) (until_of chain load goal s) q)
+    → IsSomeAnd (slice_get states s) (IsExactUntil comparison (horizon load until_bits) until_bits (until_of chain load goal s) q)
 until_exact_at chain load goal comparison q s states positive threshold few e l =
-    subst (λ o. IsSomeAnd o (IsExactUntil comparison (horizon load until_bits) (until_of chain load goal s) q))
+    subst (λ o. IsSomeAnd o (IsExactUntil comparison (horizon load until_bits) until_bits (until_of chain load goal s) q))
     (sym (found_at (λ t. words_answer comparison (state_words chain load goal t) q) chain.states s states e l))
     (until_exact comparison chain load goal q s positive threshold few l)
 
@@ -251,7 +252,7 @@ appended : (written text : List ℕ) (now : Option (List ℕ)) → Appends (Some
 appended written text None p = absurd p
 appended written text (Some xs) p = ap Some p
 
-pub told : (command : Option FileNames) (files : Option (List Pair)) (left_before left_now before now : Option (List ℕ)) (flushed : ℕ) (s : Status) (mine outcome : Outcome)
+pub told : (command : Option FileNames) (files : Option (List Pair)) (left_before left_now before now : Option (List ℕ)) (flushed : Option ℕ) (s : Status) (mine outcome : Outcome)
     (pairs : List Pair) (left written : List ℕ) (other : Option (List ℕ))
     → s ≡ outcome_status mine → IsOutcomeOf command files left_before left_now mine → Says before now flushed (outcome_text mine)
     → files ≡ Some pairs → left_before ≡ Some left → before ≡ Some written → IsOutcomeOf command (Some pairs) (Some left) other outcome

@@ -1,4 +1,7 @@
+pub mod BracketAnswer
 pub mod Command
+pub mod Ends
+pub mod ExactAnswer
 pub mod ExitCode
 pub mod FaultText
 pub mod FormulaAnswer
@@ -6,6 +9,7 @@ pub mod MixColumns
 pub mod NextAnswer
 pub mod Outcome
 pub mod PlainFormula
+pub mod ReadCause
 pub mod Reading
 pub mod Report
 pub mod Serve

@@ -2,9 +2,9 @@
 use Rattle.std.specs.Prelude.{◌≡◌, ℕ, ◌<◌, List, ◌++◌, length, take, Option, IfSome, IsSome, slice_get, IsSomeAnd}
 use Rattle.std.specs.Io.KnownBytes.{Appends}
 use Rattle.outside.specs.Shelf.{Pair, file_named}
-use Rattle.outside.specs.Whole.{WritesFront}
+use Rattle.outside.specs.Whole.{WritesFront, AllFlushed}
 use Rattle.session.specs.Command.{FileNames, names_of}
-use Rattle.session.specs.FormulaAnswer.{IsExactAnswer, formula_horizon}
+use Rattle.session.specs.ExactAnswer.{IsExactAnswer, formula_horizon}
 use Rattle.session.specs.Outcome.{Outcome, IsOutcome, IsRefused, outcome_text, outcome_status, TakesModel, TakesFormula, name_at, tra_chain, lab_goal}
 use Rattle.session.specs.PlainFormula.{formula_text}
 use Rattle.session.specs.Report.{answer_text}
@@ -19,12 +19,13 @@ use Rattle.session.specs.declared.uniformise.Refusal.{Refusal}
 use Rattle.session.specs.declared.status.Status.TheVariants.{Done, Refused, Usage, Model, NotBuilt, Outside, Memory}
 
 -- all of the text is written and flushed
-pub record Says (before now : Option (List ℕ)) (flushed : ℕ) (text : List ℕ) : Type 0 where
+pub record Says (before now : Option (List ℕ)) (flushed : Option ℕ) (text : List ℕ) : Type 0 where
   pub written : Appends before now text
-  pub all_flushed : IfSome now (λ bytes. flushed ≡ length bytes)
+  pub all_flushed : AllFlushed now flushed
 
 -- the words, the files and the formulas have an outcome of this status, and its text is written and flushed
-pub record Settles (words : List (List ℕ)) (files : Option (List Pair)) (left_before left_now before now : Option (List ℕ)) (flushed : ℕ) (status : Status) : Type 0 where
+pub record Settles (words : List (List ℕ)) (files : Option (List Pair)) (left_before left_now before now : Option (List ℕ))
+    (flushed : Option ℕ) (status : Status) : Type 0 where
   pub outcome : Outcome
   pub is_outcome : IsOutcome words files left_before left_now outcome
   pub is_status : status ≡ outcome_status outcome
@@ -86,6 +87,16 @@ IsUsageOrLost Refused = ⊥
 IsUsageOrLost (Model fault) = ⊥
 IsUsageOrLost (NotBuilt part) = ⊥
 
+-- memory ran out, or else P; no fault of the outside is told
+abbrev pub IsMemoryOr : Status → Type 0 → Type 0
+IsMemoryOr Memory P = Unit {0}
+IsMemoryOr (Outside fault) P = ⊥
+IsMemoryOr Done P = P
+IsMemoryOr Refused P = P
+IsMemoryOr Usage P = P
+IsMemoryOr (Model fault) P = P
+IsMemoryOr (NotBuilt part) P = P
+
 -- the answer is lost to a fault or to want of memory, or else P
 abbrev pub IsLostOr : Status → Type 0 → Type 0
 IsLostOr (Outside fault) P = Unit {0}
@@ -101,3 +112,13 @@ pub record AreThere (names : FileNames) (pairs : List Pair) : Type 0 where
   pub tra : IsSome (file_named names.tra pairs)
   pub lab : IsSome (file_named names.lab pairs)
   pub rew : IfSome names.rew (λ name. IsSome (file_named name pairs))
+
+-- the answer is lost to a fault or to want of memory
+abbrev pub IsLost : Status → Type 0
+IsLost (Outside fault) = Unit {0}
+IsLost Memory = Unit {0}
+IsLost Done = ⊥
+IsLost Refused = ⊥
+IsLost Usage = ⊥
+IsLost (Model fault) = ⊥
+IsLost (NotBuilt part) = ⊥

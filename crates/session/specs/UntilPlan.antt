@@ -2,9 +2,9 @@
 use Rattle.std.specs.Prelude.{◌≡◌, ℕ, suc, ◌*◌, ◌<◌, ◌^◌, Bool, true, if◌then◌else◌, nat_lt, Option, Some, None}
 use Rattle.ctmc_semantics.specs.Chain.{Chain}
 use Rattle.ctmc_semantics.specs.Fraction.{Fraction}
-use Rattle.ctmc_semantics.specs.Table.{holds_at}
+use Rattle.ctmc_semantics.specs.Sets.{holds_at}
 use Rattle.ctmc_semantics.specs.Uniformised.{time_load, uniformised}
-use Rattle.ctmc_semantics.specs.Weights.{horizon}
+use Rattle.ctmc_semantics.specs.Horizon.{horizon}
 use Rattle.decimal_text.specs.DecimalNumber.{DecimalNumber}
 use Rattle.step_core.specs.FrameRows.{StandFor}
 use Rattle.step_core.specs.PlanLists.{PlanLists}
@@ -12,7 +12,7 @@ use Rattle.step_core.specs.PlanLoad.{FitsPoisson}
 use Rattle.step_core.specs.SoundPlan.{IsSoundPlan}
 use Rattle.step_core.specs.WeightLists.{WeightLists}
 use Rattle.step_core.specs.declared.mix.Mix.TheVariants.{Poisson}
-use Rattle.session.specs.UntilAnswer.{until_bits}
+use Rattle.session.specs.ExactAnswer.{until_bits}
 use Rattle.session.specs.declared.uniformise.Refusal.{Refusal}
 use Rattle.session.specs.declared.uniformise.Refusal.TheVariants.{TooLong, TooLarge}
 

@@ -5,10 +5,12 @@ ghost use Rattle.ctmc_semantics.specs.Next.{next_probability, rate_into};
 ghost use Rattle.ctmc_semantics.specs.WordBracket.{WordBracket};
 ghost use Rattle.model_core.specs.Model.{has_label};
 ghost use Rattle.model_core.specs.Transitions.{chain_of};
-ghost use Rattle.session.specs.NextAnswer.{next_answer, next_answers, meets_threshold, rounded_bracket};
+ghost use Rattle.session.specs.BracketAnswer.{bracket_answer, bracket_verdict, decided_verdict};
+ghost use Rattle.session.specs.Ends.{AreProbabilities, ends_bracket};
+ghost use Rattle.session.specs.NextAnswer.{next_answers};
 ghost use Rattle.session.specs.PlainFormula.{comparison_of};
 ghost use Rattle.session.specs.Report.{IsPrintable};
-ghost use Rattle.session.specs.UntilAnswer.{words_satisfy, words_refute, decided_verdict, words_answer};
+ghost use Rattle.session.specs.UntilAnswer.{words_answer};
 
 use crate::plain_formula::Op;
 use crate::report::{Printed, StateAnswer, Verdict};
@@ -19,7 +21,7 @@ use std::alloc::{AllocError, Global};
 use step_core::Bracket;
 
 // A printed number counts units of 10^-12.
-const UNITS: u128 = 1_000_000_000_000;
+const UNITS: u64 = 1_000_000_000_000;
 
 /// Answers `P{op threshold}[X label]` at each state.
 pub(crate) fn check_next(
@@ -40,7 +42,7 @@ pub(crate) fn check_next(
     for s in 0..n {
         let into = rate_into(model, s, label);
         let exit = model.exit(s).max(1);
-        answers.push(next_answer(into, exit, op, threshold))?;
+        answers.push(ends_answer(Ends::point(into, exit), op, threshold))?;
     }
     Ok(answers)
 }
@@ -60,80 +62,65 @@ fn rate_into(model: &Model, s: u32, label: u32) -> u64
     sum
 }
 
-// The answer to the probability `num / den`.
-fn next_answer(num: u64, den: u64, op: Op, threshold: Decimal) -> StateAnswer
-    requires probability { num ≤ den }
-    requires divisor { 0 < den }
-    requires fits { den < 2 ^ 63 }
-    ensures answer { result ≡ next_answer (comparison_of op) (fraction num den) (decimal_fraction threshold.c threshold.x) }
-    ensures printable { IsPrintable result }
-{
-    let verdict = if meets_threshold(num, den, op, threshold) {
-        Verdict::Satisfied
-    } else {
-        Verdict::Refuted
-    };
-    let bracket = rounded_bracket(num, den);
-    StateAnswer { verdict, bracket }
+/// The two ends of a bracket round a probability, over one divisor.
+#[derive(Clone, Copy)]
+struct Ends {
+    lower: u64,
+    upper: u64,
+    den: u64,
 }
 
-// Whether `num / den` meets the threshold.
-fn meets_threshold(num: u64, den: u64, op: Op, threshold: Decimal) -> bool
-    requires probability { num ≤ den }
-    requires fits { den < 2 ^ 63 }
-    ensures { result ≡ meets_threshold (comparison_of op) (fraction num den) (decimal_fraction threshold.c threshold.x) }
-{
-    let scale = 10u64.pow(threshold.x);
-    let probability = u128::from(num) * u128::from(scale);
-    let bound = u128::from(threshold.c) * u128::from(den);
-    match op {
-        Op::Less => probability < bound,
-        Op::AtMost => probability <= bound,
-        Op::More => probability > bound,
-        Op::AtLeast => probability >= bound,
-    }
-}
-
-// `num / den` in units of 10^-12, rounded down and up.
-fn rounded_bracket(num: u64, den: u64) -> Printed
-    requires probability { num ≤ den }
-    requires divisor { 0 < den }
-    ensures { result ≡ rounded_bracket (fraction num den) }
-{
-    let units = u128::from(num) * UNITS;
-    let den = u128::from(den);
-    Printed {
-        low: (units / den) as u64,
-        high: units.div_ceil(den) as u64,
+impl Ends {
+    // Both ends are the one probability.
+    fn point(num: u64, den: u64) -> Ends
+        ensures { result ≡ record { lower = num; upper = num; den = den } }
+    {
+        Ends {
+            lower: num,
+            upper: num,
+            den,
+        }
     }
 }
 
 /// The answer of a state whose probability lies between the words.
 pub(crate) fn words_answer(words: Bracket, op: Op, threshold: Decimal) -> StateAnswer
-    requires lower { words.lower ≤ 2 ^ 62 }
-    requires upper { words.upper ≤ 2 ^ 62 }
+    requires lower { words.lower ≤ ONE }
+    requires upper { words.upper ≤ ONE }
     ensures answer { result ≡ words_answer (comparison_of op) record { lower = words.lower; upper = words.upper } (decimal_fraction threshold.c threshold.x) }
     ensures printable { IsPrintable result }
 {
+    let ends = Ends {
+        lower: words.lower,
+        upper: words.upper,
+        den: ONE,
+    };
+    ends_answer(ends, op, threshold)
+}
+
+// The answer of a state whose probability lies between the ends: what they show of the threshold, and the ends in units
+// of 10^-12, rounded down and up.
+fn ends_answer(ends: Ends, op: Op, threshold: Decimal) -> StateAnswer
+    requires probabilities { AreProbabilities ends }
+    ensures answer { result ≡ bracket_answer (comparison_of op) (ends_bracket ends) (decimal_fraction threshold.c threshold.x) }
+    ensures printable { IsPrintable result }
+{
     StateAnswer {
-        verdict: words_verdict(words, op, threshold),
+        verdict: ends_verdict(ends, op, threshold),
         bracket: Printed {
-            low: mul_div_floor(words.lower, UNITS as u64, ONE),
-            high: mul_div_ceil(words.upper, UNITS as u64, ONE),
+            low: mul_div_floor(ends.lower, UNITS, ends.den),
+            high: mul_div_ceil(ends.upper, UNITS, ends.den),
         },
     }
 }
 
-// What the words show of the threshold.
-fn words_verdict(words: Bracket, op: Op, threshold: Decimal) -> Verdict
-    requires lower { words.lower ≤ 2 ^ 62 }
-    requires upper { words.upper ≤ 2 ^ 62 }
-    ensures { let w : WordBracket = record { lower = words.lower; upper = words.upper } in
-        result ≡ decided_verdict (words_satisfy (comparison_of op) w (decimal_fraction threshold.c threshold.x))
-        (words_refute (comparison_of op) w (decimal_fraction threshold.c threshold.x)) }
+// What the ends show of the threshold.
+fn ends_verdict(ends: Ends, op: Op, threshold: Decimal) -> Verdict
+    requires probabilities { AreProbabilities ends }
+    ensures { result ≡ bracket_verdict (comparison_of op) (ends_bracket ends) (decimal_fraction threshold.c threshold.x) }
 {
-    let lower = cmp_frac(words.lower, ONE, threshold.c, threshold.x);
-    let upper = cmp_frac(words.upper, ONE, threshold.c, threshold.x);
+    let lower = cmp_frac(ends.lower, ends.den, threshold.c, threshold.x);
+    let upper = cmp_frac(ends.upper, ends.den, threshold.c, threshold.x);
     match op {
         Op::Less => decided_verdict(upper.is_lt(), lower.is_ge()),
         Op::AtMost => decided_verdict(upper.is_le(), lower.is_gt()),

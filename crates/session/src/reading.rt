@@ -1,14 +1,18 @@
 // What is answered to the words, the files and the formulas.
 ghost use Rattle.std.specs.Prelude.{◌≡◌, ℕ, ◌⊎◌, List, [], ◌∷◌, ◌++◌, map, string_bytes, length, IfOk, IfSome, IsErr, IsErrOf, IsNone, IsSomeAnd, ◌<◌, ◌≤◌, All};
 ghost use Rattle.ctmc_semantics.specs.Fraction.{decimal_fraction};
-ghost use Rattle.ctmc_semantics.specs.Weights.{mode, horizon};
+ghost use Rattle.ctmc_semantics.specs.Weights.{mode};
+ghost use Rattle.ctmc_semantics.specs.Horizon.{horizon};
 ghost use Rattle.model_core.specs.Model.{has_label, model_chain};
-ghost use Rattle.outside.specs.Causes.{Rose};
+ghost use Rattle.std.specs.Io.KnownBytes.{Keeps};
+ghost use Rattle.outside.specs.Causes.{HasCause};
 ghost use Rattle.session.specs.Command.{FileNames, file_names, name_in, command_of};
-ghost use Rattle.session.specs.Outcome.{IsOutcome, TakesModel, outcome_status};
+ghost use Rattle.session.specs.Outcome.{IsOutcome, outcome_status};
+ghost use Rattle.session.specs.ReadCause.{HasReadCause, IsUntouched};
 ghost use Rattle.session.specs.PlainFormula.{comparison_of};
 ghost use Rattle.session.specs.Report.{IsPrintable};
-ghost use Rattle.session.specs.UntilAnswer.{until_answers, until_bits};
+ghost use Rattle.session.specs.UntilAnswer.{until_answers};
+ghost use Rattle.session.specs.ExactAnswer.{until_bits};
 ghost use Rattle.session.specs.Reading.{outcome_of, IsWritable, IsFileReading, IsTraReading, IsLabReading, IsRewReading, IsModelReading, IsFormulaReading, AsksForFile, AsksForRew, AsksForModel, AsksForReply, IsFormulaOutcome, IsAnswerTo};
 
 use crate::command::{Command, read_words};
@@ -103,14 +107,12 @@ pub(crate) fn read_reply<F: Files, S: Source>(
 ) -> Result<Reply, Stop>
     ensures outcome { IfOk result (λ reply. IsOutcome (map string_bytes words.now) (F.files files.old) (S.left formulas.old) (S.left formulas.new) (outcome_of reply)) }
     ensures writable { IfOk result IsWritable }
+    ensures untouched { IsUntouched (command_of (map string_bytes words.now)) (F.files files.old) (S.left formulas.old) (S.left formulas.new) }
     ensures command { IsErr result → ¬ IsNone (command_of (map string_bytes words.now)) }
-    ensures read { IsErrOf result Stop.Read → (Rose (F.fault_count files.old) (F.fault_count files.new)
-        ⊎ (Rose (S.fault_count formulas.old) (S.fault_count formulas.new)
-        × IsSomeAnd (command_of (map string_bytes words.now)) (λ names. TakesModel names (F.files files.old)))) }
+    ensures cause { HasReadCause (command_of (map string_bytes words.now)) (F.files files.old) (F.fault_count files.old) (F.fault_count files.new)
+        (S.fault_count formulas.old) (S.fault_count formulas.new) (IsErrOf result Stop.Read) }
     ensures files { F.files files.new ≡ F.files files.old }
     ensures asked { IfSome (F.files files.old) (λ _. AsksForReply (command_of (map string_bytes words.now)) result (F.asked files.old) (F.asked files.new)) }
-    ensures files_later { F.fault_count files.old ≤ F.fault_count files.new }
-    ensures formulas_later { S.fault_count formulas.old ≤ S.fault_count formulas.new }
 {
     let Some(command) = read_words(words) else {
         return Ok(Reply::Usage);
@@ -125,8 +127,7 @@ pub(crate) fn read_reply<F: Files, S: Source>(
 fn answer_formula<S: Source>(alloc: Global, model: &Model, formulas: &mut S) -> Result<Reply, Stop>
     ensures reply { IfOk result (λ reply. IsFormulaOutcome model.now (S.left formulas.old) (S.left formulas.new) (outcome_of reply)) }
     ensures writable { IfOk result IsWritable }
-    ensures read { IsErrOf result Stop.Read → Rose (S.fault_count formulas.old) (S.fault_count formulas.new) }
-    ensures later { S.fault_count formulas.old ≤ S.fault_count formulas.new }
+    ensures cause { HasCause (S.fault_count formulas.old) (S.fault_count formulas.new) (IsErrOf result Stop.Read) }
 {
     match read_formula(alloc, formulas, model.labels())? {
         Some(named) => Ok(make_reply(alloc, model, named)?),
@@ -191,10 +192,9 @@ fn read_model<F: Files>(
     command: Command<'_>,
 ) -> Result<ModelReading, Stop>
     ensures model { IfOk result (IsModelReading (file_names command.entry) (F.files files.old)) }
-    ensures read { IsErrOf result Stop.Read → Rose (F.fault_count files.old) (F.fault_count files.new) }
+    ensures cause { HasCause (F.fault_count files.old) (F.fault_count files.new) (IsErrOf result Stop.Read) }
     ensures files { F.files files.new ≡ F.files files.old }
     ensures asked { IfSome (F.files files.old) (λ _. AsksForModel (file_names command.entry) result (F.asked files.old) (F.asked files.new)) }
-    ensures later { F.fault_count files.old ≤ F.fault_count files.new }
 {
     let tra = match take_tra(alloc, files, command.tra)? {
         Ok(tra) => tra,
@@ -219,10 +219,9 @@ fn take_tra<F: Files>(
     name: &str,
 ) -> Result<Result<Tra, FileFault>, Stop>
     ensures tra { IfOk result (IsTraReading name.now (F.files files.old)) }
-    ensures read { IsErrOf result Stop.Read → Rose (F.fault_count files.old) (F.fault_count files.new) }
+    ensures cause { HasCause (F.fault_count files.old) (F.fault_count files.new) (IsErrOf result Stop.Read) }
     ensures files { F.files files.new ≡ F.files files.old }
     ensures asked { IfSome (F.files files.old) (λ _. AsksForFile name.now result (F.asked files.old) (F.asked files.new)) }
-    ensures later { F.fault_count files.old ≤ F.fault_count files.new }
 {
     let Some(bytes) = take_file(alloc, files, name)? else {
         return Ok(Err(TOO_BIG));
@@ -244,10 +243,9 @@ fn take_lab<F: Files>(
     requires some { 1 ≤ n }
     requires few { n ≤ 65536 }
     ensures lab { IfOk result (IsLabReading n name.now (F.files files.old)) }
-    ensures read { IsErrOf result Stop.Read → Rose (F.fault_count files.old) (F.fault_count files.new) }
+    ensures cause { HasCause (F.fault_count files.old) (F.fault_count files.new) (IsErrOf result Stop.Read) }
     ensures files { F.files files.new ≡ F.files files.old }
     ensures asked { IfSome (F.files files.old) (λ _. AsksForFile name.now result (F.asked files.old) (F.asked files.new)) }
-    ensures later { F.fault_count files.old ≤ F.fault_count files.new }
 {
     let Some(bytes) = take_file(alloc, files, name)? else {
         return Ok(Err(TOO_BIG));
@@ -269,10 +267,9 @@ fn take_rew<F: Files>(
     requires some { 1 ≤ n }
     requires few { n ≤ 65536 }
     ensures rew { IfOk result (IsRewReading n (name_in name.entry) (F.files files.old)) }
-    ensures read { IsErrOf result Stop.Read → Rose (F.fault_count files.old) (F.fault_count files.new) }
+    ensures cause { HasCause (F.fault_count files.old) (F.fault_count files.new) (IsErrOf result Stop.Read) }
     ensures files { F.files files.new ≡ F.files files.old }
     ensures asked { IfSome (F.files files.old) (λ _. AsksForRew (name_in name.entry) result (F.asked files.old) (F.asked files.new)) }
-    ensures later { F.fault_count files.old ≤ F.fault_count files.new }
 {
     let Some(name) = name else {
         return Ok(Ok(None));
@@ -290,10 +287,9 @@ fn take_rew<F: Files>(
 // The bytes of a file, or none where there are too many.
 fn take_file<F: Files>(alloc: Global, files: &mut F, name: &str) -> Result<Option<Vec<u8>>, Stop>
     ensures bytes { IfOk result (IsFileReading name.now (F.files files.old)) }
-    ensures read { IsErrOf result Stop.Read → Rose (F.fault_count files.old) (F.fault_count files.new) }
+    ensures cause { HasCause (F.fault_count files.old) (F.fault_count files.new) (IsErrOf result Stop.Read) }
     ensures files { F.files files.new ≡ F.files files.old }
     ensures asked { IfSome (F.files files.old) (λ _. AsksForFile name.now result (F.asked files.old) (F.asked files.new)) }
-    ensures later { F.fault_count files.old ≤ F.fault_count files.new }
 {
     match files.take(alloc, name) {
         Ok(bytes) => Ok(Some(bytes)),
@@ -311,8 +307,7 @@ fn read_formula<S: Source>(
 ) -> Result<Option<NamedFormula>, Stop>
     requires { length names.now ≤ 64 }
     ensures formula { IfOk result (IsFormulaReading names.now (S.left formulas.old) (S.left formulas.new)) }
-    ensures read { IsErrOf result Stop.Read → Rose (S.fault_count formulas.old) (S.fault_count formulas.new) }
-    ensures later { S.fault_count formulas.old ≤ S.fault_count formulas.new }
+    ensures cause { HasCause (S.fault_count formulas.old) (S.fault_count formulas.new) (IsErrOf result Stop.Read) }
 {
     match read_whole(alloc, formulas, FORMULAS_LIMIT) {
         Ok(text) => Ok(read_named_formula(&text, names)),

@@ -1,15 +1,17 @@
 // The top call where nothing outside fails.
-ghost use Rattle.std.specs.Prelude.{◌≡◌, ◌≢◌, [], IfSome, IsSome, map, string_bytes};
+ghost use Rattle.std.specs.Prelude.{◌≡◌, [], ◌++◌, Some, IfSome, IsSome, map, string_bytes};
 ghost use Rattle.outside.specs.Shelf.{file_named};
 ghost use Rattle.session.specs.Command.{command_of};
-ghost use Rattle.session.specs.Serve.{AreThere};
+ghost use Rattle.session.specs.Outcome.{Outcome, IsOutcome, outcome_text, outcome_status};
+ghost use Rattle.session.specs.Serve.{AreThere, IsMemoryOr, Settles};
 
-use crate::{Fault, Status, serve};
+use crate::{Status, serve};
 use outside::{OpenGate, SureFiles, SureSink, SureSource};
 use std::alloc::Global;
 use std::thread::Threads;
 
-/// Serves over objects that don't fail and hold the files that the words name. No fault is answered.
+/// Serves over objects that don't fail and hold the files that the words name. The outcome's status is answered and its
+/// whole text written, unless memory runs out.
 pub fn serve_surely(
     rt: &(impl Threads + Sync),
     alloc: Global,
@@ -20,8 +22,10 @@ pub fn serve_surely(
 ) -> Status
     requires fresh { files.old.asked ≡ [] }
     requires named { IfSome (command_of (map string_bytes words.now)) (λ names. AreThere names files.old.files) }
-    ensures no_read { result ≢ Status.Outside Fault.Read }
-    ensures no_write { result ≢ Status.Outside Fault.Write }
+    ensures settled { IsMemoryOr result (Settles (map string_bytes words.now) (Some files.old.files) (Some formulas.old.left) (Some formulas.new.left)
+        (Some out.old.written) (Some out.new.written) (Some out.new.flushed) result) }
+    ensures told { (now : _) (outcome : Outcome) → IsOutcome (map string_bytes words.now) (Some files.old.files) (Some formulas.old.left) now outcome
+        → IsMemoryOr result ((result ≡ outcome_status outcome) × (out.new.written ≡ out.old.written ++ outcome_text outcome)) }
 {
     serve(rt, alloc, words, files, formulas, out, &OpenGate)
 }

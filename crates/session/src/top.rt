@@ -1,13 +1,14 @@
 // The top call: the reply is read, written and flushed.
-ghost use Rattle.std.specs.Prelude.{◌≡◌, ℕ, ◌⊎◌, ◌++◌, List, Some, map, string_bytes, OnOk, IfSome, IsErrOf, IsNone, IsSomeAnd};
+ghost use Rattle.std.specs.Prelude.{◌≡◌, ℕ, ◌⊎◌, ◌++◌, List, Some, map, string_bytes, OnOk, OnErr, IfSome, IsErrOf, IsNone, IsSomeAnd};
 ghost use Rattle.std.specs.Io.KnownBytes.{Appends, Keeps};
-ghost use Rattle.outside.specs.Causes.{Rose, HasCause};
+ghost use Rattle.outside.specs.Causes.{HasCause};
 ghost use Rattle.outside.specs.Shelf.{Pair};
 ghost use Rattle.outside.specs.Whole.{WritesFront};
 ghost use Rattle.session.specs.Command.{command_of, names_of};
-ghost use Rattle.session.specs.Outcome.{Outcome, IsOutcome, IsFileFaulty, IsNotBuilt, TakesModel, outcome_text, outcome_status, usage_text, not_built_text, refused_text};
+ghost use Rattle.session.specs.Outcome.{Outcome, IsOutcome, IsFileFaulty, IsNotBuilt, outcome_text, outcome_status, usage_text, not_built_text, refused_text};
+ghost use Rattle.session.specs.ReadCause.{HasReadCause, IsUntouched};
 ghost use Rattle.session.specs.Reading.{outcome_of, IsWritable};
-ghost use Rattle.session.specs.Serve.{Says, Settles, RefusesFormula, AnswersExactly, IsCutShort, AsksFor, AsksBy, IsUsageOrLost, IsLostOr};
+ghost use Rattle.session.specs.Serve.{Says, Settles, RefusesFormula, AnswersExactly, IsCutShort, AsksFor, AsksBy, IsUsageOrLost, IsLostOr, IsLost};
 
 use crate::fault_line::write_fault;
 use crate::reading::{Reply, Stop, read_reply};
@@ -57,11 +58,10 @@ pub fn serve<F: Files, S: Source, K: Sink, G: Gate>(
     // Words that are no command are never anything else.
     ensures only_usage { IsNone (command_of (map string_bytes words.now)) → IsUsageOrLost result }
 
-    // A fault has its cause.
-    ensures read { result ≡ Status.Outside Fault.Read → (Rose (F.fault_count files.old) (F.fault_count files.new)
-        ⊎ (Rose (S.fault_count formulas.old) (S.fault_count formulas.new)
-        × IsSomeAnd (command_of (map string_bytes words.now)) (λ names. TakesModel names (F.files files.old)))) }
-    ensures write { result ≡ Status.Outside Fault.Write → Rose (K.fault_count out.old) (K.fault_count out.new) }
+    // A fault that is told has its cause, none is hidden, and a call that failed isn't made again.
+    ensures read { HasReadCause (command_of (map string_bytes words.now)) (F.files files.old) (F.fault_count files.old) (F.fault_count files.new)
+        (S.fault_count formulas.old) (S.fault_count formulas.new) (result ≡ Status.Outside Fault.Read) }
+    ensures write { HasCause (K.fault_count out.old) (K.fault_count out.new) (result ≡ Status.Outside Fault.Write) }
 
     // Where the answer is lost, a front of its text is written, and nothing where reading failed.
     ensures unwritten { result ≡ Status.Outside Fault.Read → Keeps (K.written out.old) (K.written out.new) }
@@ -69,6 +69,11 @@ pub fn serve<F: Files, S: Source, K: Sink, G: Gate>(
         (S.left formulas.old) (S.left formulas.new) (K.written out.old) (K.written out.new) }
     ensures memory { result ≡ Status.Memory → (Keeps (K.written out.old) (K.written out.new)
         ⊎ IsCutShort (map string_bytes words.now) (F.files files.old) (S.left formulas.old) (S.left formulas.new) (K.written out.old) (K.written out.new)) }
+
+    ensures unflushed { IsLost result → K.flushed out.new ≡ K.flushed out.old }
+
+    // Nothing is taken of the formulas unless the files stand for a model.
+    ensures untouched { IsUntouched (command_of (map string_bytes words.now)) (F.files files.old) (S.left formulas.old) (S.left formulas.new) }
 
     // The files stay, and only what the status needs is asked for.
     ensures files { F.files files.new ≡ F.files files.old }
@@ -91,6 +96,7 @@ fn say<K: Sink>(alloc: Global, out: &mut K, reply: &Reply) -> Result<(), PutFaul
     requires { IsWritable reply.now }
     ensures ok { OnOk result (Says (K.written out.old) (K.written out.new) (K.flushed out.new) (outcome_text (outcome_of reply.now))) }
     ensures front { WritesFront (outcome_text (outcome_of reply.now)) (K.written out.old) (K.written out.new) }
+    ensures unflushed { OnErr result (K.flushed out.new ≡ K.flushed out.old) }
     ensures cause { HasCause (K.fault_count out.old) (K.fault_count out.new) (IsErrOf result PutFault.Failed) }
 {
     write_reply(alloc, out, reply)?;

@@ -1,9 +1,10 @@
 // What a time bound asks of a plan: its load and its horizon.
 ghost use Rattle.std.specs.Prelude.{◌≡◌, Ok, Err, Some, None, ◌<◌, ◌≤◌, ◌^◌, IfOk, MatchResult};
 ghost use Rattle.ctmc_semantics.specs.Uniformised.{greatest_exit_rate, time_load};
-ghost use Rattle.ctmc_semantics.specs.Weights.{mode, horizon};
+ghost use Rattle.ctmc_semantics.specs.Weights.{mode};
+ghost use Rattle.ctmc_semantics.specs.Horizon.{horizon};
 ghost use Rattle.model_core.specs.Model.{model_chain};
-ghost use Rattle.session.specs.UntilAnswer.{until_bits};
+ghost use Rattle.session.specs.ExactAnswer.{until_bits};
 ghost use Rattle.session.specs.UntilPlan.{until_refusal};
 
 use decimal_text::Decimal;

@@ -1,9 +1,10 @@
 // The plan of a time-bounded until over the model.
 ghost use Rattle.std.specs.Prelude.{◌≡◌, ◌<◌, ◌≤◌, length, map, IfOk, if◌then◌else◌};
 ghost use Rattle.std.specs.List.{range_with_len};
-ghost use Rattle.ctmc_semantics.specs.Weights.{mode, horizon};
+ghost use Rattle.ctmc_semantics.specs.Weights.{mode};
+ghost use Rattle.ctmc_semantics.specs.Horizon.{horizon};
 ghost use Rattle.model_core.specs.Model.{has_label, model_chain};
-ghost use Rattle.session.specs.UntilAnswer.{until_bits};
+ghost use Rattle.session.specs.ExactAnswer.{until_bits};
 ghost use Rattle.session.specs.UntilPlan.{IsUntilPlan};
 
 use crate::uniformise::BITS;

@@ -8,7 +8,7 @@ use Rattle.std.specs.Prelude.{slice_index, if◌then◌else◌}
 use Rattle.std.specs.List.{All, sum_by}
 use Rattle.std.specs.Int.{div_ceil}
 use Rattle.ctmc_semantics.specs.Rows.{Rows}
-use Rattle.ctmc_semantics.specs.Table.{holds_at}
+use Rattle.ctmc_semantics.specs.Sets.{holds_at}
 use Rattle.ctmc_semantics.specs.RoundedTables.{one_word, set_words, row_low, row_high}
 use Rattle.ctmc_semantics.proofs.Sums.{sum_below-same}
 use Rattle.step_core.specs.FrameLists.{RowLists, SetLists}

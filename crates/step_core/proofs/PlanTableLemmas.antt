@@ -9,7 +9,7 @@ use Rattle.ctmc_semantics.specs.JumpValue.{jump_value}
 use Rattle.ctmc_semantics.specs.Reach.{ReachesBack}
 use Rattle.ctmc_semantics.specs.RoundedTables.{one_word, set_words, exact_word, high_table}
 use Rattle.ctmc_semantics.specs.Rows.{Rows}
-use Rattle.ctmc_semantics.specs.Table.{holds_at}
+use Rattle.ctmc_semantics.specs.Sets.{holds_at}
 use Rattle.ctmc_semantics.proofs.Sums.{sum_below-same}
 use Rattle.ctmc_semantics.proofs.LowTables.{low_below, low_above}
 use Rattle.ctmc_semantics.proofs.HighTables.{high_over, high_under, goal_starts}

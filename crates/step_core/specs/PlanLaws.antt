@@ -5,7 +5,7 @@ use Rattle.ctmc_semantics.specs.Jumps.{Jumps}
 use Rattle.ctmc_semantics.specs.JumpValue.{jump_value}
 use Rattle.ctmc_semantics.specs.RoundedTables.{one_word, exact_word}
 use Rattle.ctmc_semantics.specs.Rows.{Rows}
-use Rattle.ctmc_semantics.specs.Table.{holds_at}
+use Rattle.ctmc_semantics.specs.Sets.{holds_at}
 use Rattle.step_core.specs.declared.mix.Mix.TheVariants.{Poisson, Last}
 use Rattle.step_core.specs.FrameLists.{FrameLists}
 use Rattle.step_core.specs.FrameRows.{frame_rows, StandFor}

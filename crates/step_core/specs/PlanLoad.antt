@@ -1,7 +1,8 @@
 -- The loads that fit a plan.
 use Rattle.std.specs.Prelude.{◌≡◌, ℕ, ◌<◌, ◌≤◌, slice_index}
 use Rattle.ctmc_semantics.specs.Fraction.{Fraction}
-use Rattle.ctmc_semantics.specs.Weights.{horizon, low_weight, high_weight}
+use Rattle.ctmc_semantics.specs.Weights.{low_weight, high_weight}
+use Rattle.ctmc_semantics.specs.Horizon.{horizon}
 use Rattle.step_core.specs.declared.mix.Mix.{Mix}
 use Rattle.step_core.specs.declared.mix.Mix.TheVariants.{Poisson, Last}
 use Rattle.step_core.specs.PlanLists.{PlanLists}

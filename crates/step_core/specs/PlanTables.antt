@@ -1,7 +1,7 @@
 -- The rounded tables of a plan.
 use Rattle.std.specs.Prelude.{◌≡◌, ℕ, suc, ◌<◌, ◌≤◌, List, [], length, slice_index, slice_index_or}
 use Rattle.ctmc_semantics.specs.RoundedTables.{low_table, high_table}
-use Rattle.ctmc_semantics.specs.Table.{holds_at}
+use Rattle.ctmc_semantics.specs.Sets.{holds_at}
 use Rattle.step_core.specs.FrameRows.{frame_rows}
 use Rattle.step_core.specs.PlanLists.{PlanLists}
 use Rattle.step_core.specs.TableLists.{TableLists}

@@ -1,8 +1,7 @@
 -- When a frame is sound.
 use Rattle.std.specs.Prelude.{◌≡◌, ℕ, ◌+◌, ◌^◌, ◌<◌, ◌≤◌, List, map, length, slice_index, All}
 use Rattle.std.specs.List.{sum_by}
-use Rattle.ctmc_semantics.specs.JumpValue.{GrowsTo}
-use Rattle.ctmc_semantics.specs.Table.{holds_at}
+use Rattle.ctmc_semantics.specs.Sets.{IsSubset, holds_at}
 use Rattle.step_core.specs.FrameLists.{RowLists, SetLists, FrameLists}
 
 -- each number is below the next
@@ -24,8 +23,8 @@ pub record AreSoundSets (n : ℕ) (sets : SetLists) : Type 0 where
   pub goal_may_states : length sets.goal_may ≡ n
   pub live_must_states : length sets.live_must ≡ n
   pub live_may_states : length sets.live_may ≡ n
-  pub goal : GrowsTo (holds_at sets.goal_must) (holds_at sets.goal_may)
-  pub live : GrowsTo (holds_at sets.live_must) (holds_at sets.live_may)
+  pub goal : IsSubset (holds_at sets.goal_must) (holds_at sets.goal_may)
+  pub live : IsSubset (holds_at sets.live_must) (holds_at sets.live_may)
 
 -- a frame is sound: it has 1 to 65,536 states, and its rows and sets are sound among them
 pub record IsSoundFrame (frame : FrameLists) : Type 0 where

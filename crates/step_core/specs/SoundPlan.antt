@@ -1,7 +1,7 @@
 -- When a plan is sound.
 use Rattle.std.specs.Prelude.{◌≡◌, ℕ, suc, ◌<◌, ◌≤◌, Bool, IsTrue, length, slice_index}
 use Rattle.ctmc_semantics.specs.RoundedTables.{one_word, set_words}
-use Rattle.ctmc_semantics.specs.Table.{holds_at}
+use Rattle.ctmc_semantics.specs.Sets.{holds_at}
 use Rattle.step_core.specs.declared.mix.Mix.{Mix}
 use Rattle.step_core.specs.declared.mix.Mix.TheVariants.{Poisson, Last}
 use Rattle.step_core.specs.SoundFrame.{IsSoundFrame}

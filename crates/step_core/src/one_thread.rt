@@ -2,7 +2,7 @@
 
 ghost use Rattle.std.specs.Prelude.{◌≡◌, ◌≤◌, All, IfOk, length, map, slice_index, if◌then◌else◌};
 ghost use Rattle.ctmc_semantics.specs.RoundedTables.{row_low, row_high};
-ghost use Rattle.ctmc_semantics.specs.Table.{holds_at};
+ghost use Rattle.ctmc_semantics.specs.Sets.{holds_at};
 ghost use Rattle.step_core.specs.FrameRows.{frame_rows};
 ghost use Rattle.step_core.specs.SoundFrame.{IsSoundRow, AreSoundSets};
 ghost use Rattle.step_core.specs.SoundPlan.{IsSoundPlan};

@@ -1,9 +1,14 @@
 // The laws of brackets and thresholds.
-ghost use Rattle.ctmc_semantics.specs.VerdictLaws.{ConstantMeets, ProbabilityIsDecided, BoundedUntilIsDecided, UnboundedUntilIsDecided, UndecidedIsInside};
+ghost use Rattle.ctmc_semantics.specs.VerdictLaws.{ConstantMeets, FailingIsNotMeeting, ProbabilityIsDecided, BoundedUntilIsDecided, UnboundedUntilIsDecided, UndecidedIsInside};
 
 /// The value of a constant sequence meets a threshold exactly where its member does.
 pub fn constant_meets()
     ensures { ConstantMeets }
+{}
+
+/// A value that fails a threshold doesn't meet it.
+pub fn failing_is_not_meeting()
+    ensures { FailingIsNotMeeting }
 {}
 
 /// A bracket that contains a probability decides each threshold on it.

@@ -1,4 +1,4 @@
-use Rattle.std.proofs.Common.{◌∙◌, arith}
+use Rattle.std.proofs.Common.{◌∙◌, arith, rules}
 use Rattle.session.proofs.Fronts.{front_so_far, front_of_state, state_written}
 use Rattle.session.specs.Report.{state_lines}
 use Rattle.session.proofs.report.write_state_lines.Goals as goal
@@ -19,7 +19,7 @@ loop-s-preserved g c =
           state_written c.args.states.now _ _ _ _ _ _ c.deref.ensures.value c.clear.ensures.items
           c.loop-s.s _ c.loop-s-test.true c.in_ok-put_state_line.ensures c.loop-s.invariant.lines c.in_ok-write_whole.ensures.ok;
       flushed = c.in_ok-write_whole.ensures.flushed ∙ c.loop-s.invariant.flushed;
-      later = omega (arith, c.in_ok-write_whole.ensures.cause.later, c.loop-s.invariant.later);
+      faultless = search rules;
     }
 
 pub returns-clause-front : goal.returns-clause-front

@@ -9,7 +9,8 @@ use Rattle.step_core.specs.declared.mix.Mix.TheVariants.{Poisson}
 use Rattle.session.specs.MixColumns.{IsWordTable, column_mixes}
 use Rattle.session.specs.PlainFormula.{comparison_of}
 use Rattle.session.specs.Report.{IsPrintable}
-use Rattle.session.specs.UntilAnswer.{first_until_answers, until_bits}
+use Rattle.session.specs.UntilAnswer.{first_until_answers}
+use Rattle.session.specs.ExactAnswer.{until_bits}
 use Rattle.session.specs.declared.report.StateAnswer.{StateAnswer}
 use Rattle.session.proofs.Mixes.{read_mixes, lower_mix_le, upper_mix_le}
 use Rattle.session.proofs.PlanColumns.{low_words, high_words}

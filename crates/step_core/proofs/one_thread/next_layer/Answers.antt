@@ -3,7 +3,7 @@ use Rattle.std.proofs.lemmas.List.{get_or_default}
 use Rattle.std.proofs.lemmas.List.Elements.{All-set}
 use Rattle.std.specs.Prelude.{slice_index}
 use Rattle.ctmc_semantics.specs.RoundedTables.{row_low, row_high}
-use Rattle.ctmc_semantics.specs.Table.{holds_at}
+use Rattle.ctmc_semantics.specs.Sets.{holds_at}
 use Rattle.ctmc_semantics.proofs.ColumnLemmas.{one_more_place}
 use Rattle.step_core.specs.FrameRows.{frame_rows, row_at}
 use Rattle.step_core.specs.SoundFrame.{IsSoundRow}

@@ -1,7 +1,7 @@
 use Rattle.std.proofs.Common.{◌≡◌, ◌≤◌, ◌<◌, ◌^◌, ℕ, All, length}
 use Rattle.std.specs.Prelude.{slice_index}
 use Rattle.ctmc_semantics.specs.RoundedTables.{row_low, row_high}
-use Rattle.ctmc_semantics.specs.Table.{holds_at}
+use Rattle.ctmc_semantics.specs.Sets.{holds_at}
 use Rattle.step_core.specs.FrameRows.{frame_rows}
 use Rattle.step_core.proofs.one_thread.next_layer.Given as goal
 

@@ -1,7 +1,8 @@
 use Rattle.std.proofs.Common.{suc, ◌≤◌, arith}
 use Rattle.ctmc_semantics.specs.Sum.{sum_below}
 use Rattle.ctmc_semantics.specs.RoundedTables.{one_word}
-use Rattle.ctmc_semantics.specs.Weights.{horizon, low_weight, high_weight}
+use Rattle.ctmc_semantics.specs.Weights.{low_weight, high_weight}
+use Rattle.ctmc_semantics.specs.Horizon.{horizon}
 use Rattle.ctmc_semantics.proofs.Sums.{sum_below-le}
 use Rattle.ctmc_semantics.proofs.WeightsNear.{ordered}
 use Rattle.ctmc_semantics.proofs.MixBounds.{sum_one}

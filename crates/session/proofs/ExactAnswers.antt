@@ -1,0 +1,129 @@
+-- The answers that are computed are exact.
+use Rattle.std.proofs.Common.{◌≡◌, ℕ, ◌<◌, ◌≤◌, ◌+◌, ◌↔◌, Bool, true, false, IsTrue, refl, sym, subst, ◌∙◌, arith}
+use Rattle.std.proofs.lemmas.Bool.{false≢true}
+use Rattle.ctmc_semantics.specs.Bracket.{Bracket, HasEnds, ContainsFrom}
+use Rattle.ctmc_semantics.specs.Compared.{meets_threshold}
+use Rattle.ctmc_semantics.specs.Fraction.{Fraction}
+use Rattle.ctmc_semantics.specs.Horizon.{greatest_width}
+use Rattle.ctmc_semantics.specs.RoundedOut.{IsRoundedOut}
+use Rattle.ctmc_semantics.specs.Threshold.{Comparison, Less, AtMost, More, AtLeast, MeetsThreshold, opposite}
+use Rattle.ctmc_semantics.specs.Units.{units_down, units_up}
+use Rattle.ctmc_semantics.specs.Value.{NeverFalls, AreFractions, ValueMeets, ValueFails}
+use Rattle.ctmc_semantics.specs.VerdictLaws.{Decides}
+use Rattle.ctmc_semantics.specs.Verdict.{last_to_meet, BracketSatisfies, BracketRefutes}
+use Rattle.ctmc_semantics.specs.WordBracket.{WordBracket, word_bracket}
+use Rattle.ctmc_semantics.proofs.ContainsLemmas.{enclosing_contains, rounded_down, rounded_up, rounded_out_encloses}
+use Rattle.ctmc_semantics.proofs.Thresholds.{test_right, opposite_not}
+use Rattle.ctmc_semantics.proofs.VerdictLemmas.{bounded_decided, failing_not_meeting, undecided_inside}
+use Rattle.session.specs.BracketAnswer.{decided_verdict, bracket_verdict}
+use Rattle.session.specs.ExactAnswer.{IsExactNext, IsExactUntil}
+use Rattle.session.specs.NextAnswer.{point, next_answer}
+use Rattle.session.specs.UntilAnswer.{words_answer}
+use Rattle.session.specs.declared.report.Verdict.{Verdict}
+use Rattle.session.specs.declared.report.Verdict.TheVariants.{Satisfied, Refuted, Undecided}
+
+satisfied_not_refuted : Satisfied ≡ Refuted → ⊥
+satisfied_not_refuted e = cc
+
+satisfied_not_undecided : Satisfied ≡ Undecided → ⊥
+satisfied_not_undecided e = cc
+
+refuted_not_undecided : Refuted ≡ Undecided → ⊥
+refuted_not_undecided e = cc
+
+-- the verdict says exactly which of two facts holds that exclude each other
+record Says (verdict : Verdict) (S R : Type 0) : Type 0 where
+  satisfied : (verdict ≡ Satisfied) ↔ S
+  refuted : (verdict ≡ Refuted) ↔ R
+
+tests_say : (s r : Bool) (S R : Type 0) → IsTrue s ↔ S → IsTrue r ↔ R → (S → R → ⊥) → Says (decided_verdict s r) S R
+tests_say true r S R by_s by_r apart = record {
+  satisfied = ((λ _. by_s.0 refl), (λ _. refl));
+  refuted = ((λ e. absurd (satisfied_not_refuted e)), (λ h. absurd (apart (by_s.0 refl) h)));
+}
+tests_say false true S R by_s by_r apart = record {
+  satisfied = ((λ e. absurd (satisfied_not_refuted (sym e))), (λ h. absurd (false≢true (by_s.1 h))));
+  refuted = ((λ _. by_r.0 refl), (λ _. refl));
+}
+tests_say false false S R by_s by_r apart = record {
+  satisfied = ((λ e. absurd (satisfied_not_undecided (sym e))), (λ h. absurd (false≢true (by_s.1 h))));
+  refuted = ((λ e. absurd (refuted_not_undecided (sym e))), (λ h. absurd (false≢true (by_r.1 h))));
+}
+
+bracket_says : (by : Comparison) (b : Bracket) (q : Fraction) → (BracketSatisfies by b q → BracketRefutes by b q → ⊥)
+    → Says (bracket_verdict by b q) (BracketSatisfies by b q) (BracketRefutes by b q)
+bracket_says by b q apart =
+    tests_say (meets_threshold by (last_to_meet by b) q) (meets_threshold (opposite by) (last_to_meet (opposite by) b) q)
+    (BracketSatisfies by b q) (BracketRefutes by b q) (test_right by (last_to_meet by b) q)
+    (test_right (opposite by) (last_to_meet (opposite by) b) q) apart
+
+-- ---- next
+one_number : (by : Comparison) (p : Fraction) → last_to_meet by (point p) ≡ p
+one_number Less p = refl
+one_number AtMost p = refl
+one_number More p = refl
+one_number AtLeast p = refl
+
+-- each fact about a threshold moves along with the number
+module _ (by : Comparison) (p q : Fraction) where
+  to_point : MeetsThreshold by p q → BracketSatisfies by (point p) q
+  to_point h = subst (λ z. MeetsThreshold by z q) (sym (one_number by p)) h
+
+  from_point : BracketSatisfies by (point p) q → MeetsThreshold by p q
+  from_point h = subst (λ z. MeetsThreshold by z q) (one_number by p) h
+
+pub next_answer_exact : (by : Comparison) (p q : Fraction) → 0 < p.den → IsExactNext by p q (next_answer by p q)
+next_answer_exact by p q positive =
+    let not : MeetsThreshold (opposite by) p q ↔ (¬ MeetsThreshold by p q) = opposite_not by p q in
+    let says = bracket_says by (point p) q (λ s r. not.0 (from_point (opposite by) p q r) (from_point by p q s)) in
+    record {
+      low = rounded_down p positive;
+      high = rounded_up p positive;
+      satisfied = ((λ e. from_point by p q (says.satisfied.0 e)), (λ h. says.satisfied.1 (to_point by p q h)));
+      refuted = ((λ e. not.0 (from_point (opposite by) p q (says.refuted.0 e))), (λ h. says.refuted.1 (to_point (opposite by) p q (not.1 h))));
+    }
+
+-- ---- until
+words_have_ends : (w : WordBracket) → HasEnds (word_bracket w)
+words_have_ends w = record { low = omega arith; high = omega arith }
+
+module _ (by : Comparison) (last bits : ℕ) (x : ℕ → Fraction) (q : Fraction) (w : WordBracket) (positive : 0 < q.den)
+    (fractions : AreFractions x) (rises : NeverFalls x) (contains : ContainsFrom (word_bracket w) last x) where
+  abbrev b : Bracket
+  b = word_bracket w
+
+  ends : HasEnds b
+  ends = words_have_ends w
+
+  decides : Decides b (λ by q. ValueMeets by x q) (λ by q. ValueFails by x q)
+  decides = bounded_decided b last x ends fractions rises contains
+
+  says : Says (bracket_verdict by b q) (BracketSatisfies by b q) (BracketRefutes by b q)
+  says = bracket_says by b q (λ s r. failing_not_meeting by x q (decides.refuted by q positive r) (decides.satisfied by q positive s))
+
+  printed : IsRoundedOut b (units_down b.low) (units_up b.high)
+  printed = record { down = rounded_down b.low ends.low; up = rounded_up b.high ends.high }
+
+  open_threshold : bracket_verdict by b q ≡ Undecided → (¬ BracketSatisfies by b q) × (¬ BracketRefutes by b q)
+  open_threshold e =
+      ((λ s. satisfied_not_undecided (sym (says.satisfied.1 s) ∙ e)), (λ r. refuted_not_undecided (sym (says.refuted.1 r) ∙ e)))
+
+  pub words_exact : w.upper ≤ w.lower + greatest_width last bits → IsExactUntil by last bits x q (words_answer by w q)
+  words_exact narrow =
+      let encloses = rounded_out_encloses b (units_down b.low) (units_up b.high) printed in
+      record {
+        contains = λ n h. enclosing_contains _ b (x n) ends encloses (contains n h);
+        meets = λ e. decides.satisfied by q positive (says.satisfied.0 e);
+        fails = λ e. decides.refuted by q positive (says.refuted.0 e);
+        undecided = λ e.
+            let left = open_threshold e in
+            enclosing_contains _ b q ends encloses (undecided_inside by b q left.0 left.1);
+        tight = record {
+          words = w;
+          contains = contains;
+          narrow = narrow;
+          printed = printed;
+          satisfied = says.satisfied;
+          refuted = says.refuted;
+        };
+      }
