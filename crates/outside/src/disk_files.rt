@@ -21,10 +21,25 @@ pub struct DiskFiles<R: rt::Files + Drop> {
 /// A file that couldn't be opened or read.
 #[derive(Debug, Drop)]
 pub struct FileFailure {
-    /// The name that was asked for, where there was memory to keep it.
-    pub name: Option<String>,
-    /// The system's reason.
-    pub reason: Option<io::Error>,
+    name: Option<String>,
+    reason: Option<io::Error>,
+}
+
+impl FileFailure {
+    /// The name that was asked for; None where there was no memory to keep it.
+    pub fn name(&self) -> Option<&str> {
+        match &self.name {
+            Some(name) => Some(name.as_str()),
+            None => None,
+        }
+    }
+
+    /// The system's reason, where it gave one.
+    pub fn reason(&self) -> Option<io::Error>
+        ensures { result ≡ self.now.reason }
+    {
+        self.reason
+    }
 }
 
 impl<R: rt::Files + Drop> DiskFiles<R> {
