@@ -15,6 +15,8 @@ pub mod Readings
 pub mod Rounding
 pub mod SameTables
 pub mod Served
+pub mod SomeFormula
+pub mod SomeOutcomes
 pub mod SureObjects
 pub mod UniformRows
 pub mod Verdicts

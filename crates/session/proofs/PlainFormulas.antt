@@ -28,7 +28,7 @@ no_longer AtLeast AtMost rest after last e = omega (arith, ap length e)
 no_longer AtLeast More rest after last e = omega (arith, ap length e)
 no_longer AtLeast AtLeast rest after last e = omega (arith, ap length e)
 
-longest : (text : List ℕ) (op : Op) (rest : List ℕ) → get_or rest 0 0 ≢ 61 → text ≡ op_text op ++ rest → IsLongestOp text op rest
+pub longest : (text : List ℕ) (op : Op) (rest : List ℕ) → get_or rest 0 0 ≢ 61 → text ≡ op_text op ++ rest → IsLongestOp text op rest
 longest text op rest last e = record { front = e; longest = λ other after f. no_longer op other rest after last (sym e ∙ f) }
 
 same_op : (op other : Op) (rest after : List ℕ) → length rest ≡ length after → op_text op ++ rest ≡ op_text other ++ after → (op ≡ other) × (rest ≡ after)

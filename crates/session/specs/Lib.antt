@@ -5,6 +5,7 @@ pub mod ExactAnswer
 pub mod ExitCode
 pub mod FaultText
 pub mod FormulaAnswer
+pub mod Laws
 pub mod MixColumns
 pub mod NextAnswer
 pub mod Outcome

@@ -3,6 +3,7 @@
 
 mod command;
 mod fault_line;
+mod laws;
 mod mix_columns;
 mod nested_verdict;
 mod plain_formula;
@@ -17,6 +18,7 @@ mod uniformised_rows;
 mod until_plan;
 mod until_states;
 
+pub use laws::{input_has_an_outcome, outcome_is_one};
 pub use status::{Fault, ModelFault, Part, Status, Which};
 pub use sure::serve_surely;
 pub use top::serve;

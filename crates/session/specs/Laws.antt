@@ -1,0 +1,26 @@
+-- What the laws of the outcome say.
+use Rattle.std.specs.Prelude.{◌≡◌, ℕ, List, Option, Some, IfSome}
+use Rattle.outside.specs.Shelf.{Pair}
+use Rattle.session.specs.Command.{command_of}
+use Rattle.session.specs.Outcome.{Outcome, IsOutcome}
+use Rattle.session.specs.Serve.{AreThere}
+
+-- the files that the words name, if they are a command, are all among the pairs
+abbrev pub AreNamed : List (List ℕ) → List Pair → Type 0
+AreNamed words pairs = IfSome (command_of words) (λ names. AreThere names pairs)
+
+-- an outcome of the words, the files and the formulas, and what it leaves of the formulas
+pub record SomeOutcome (words : List (List ℕ)) (pairs : List Pair) (left : List ℕ) : Type 0 where
+  pub outcome : Outcome
+  pub now : Option (List ℕ)
+  pub is : IsOutcome words (Some pairs) (Some left) now outcome
+
+-- words, files that are there, and formulas have an outcome
+abbrev pub InputHasAnOutcome : Type 0
+InputHasAnOutcome = (words : List (List ℕ)) (pairs : List Pair) (left : List ℕ) → AreNamed words pairs → SomeOutcome words pairs left
+
+-- and have no other
+abbrev pub OutcomeIsOne : Type 0
+OutcomeIsOne =
+    (words : List (List ℕ)) (pairs : List Pair) (left : List ℕ) (u v : Option (List ℕ)) (a b : Outcome)
+    → IsOutcome words (Some pairs) (Some left) u a → IsOutcome words (Some pairs) (Some left) v b → a ≡ b
