@@ -1,6 +1,7 @@
 use crate::{
-    DiskFiles, Failed, Files, Gate, MemFiles, MemSink, MemSource, OpenGate, PutFault, Sink, Source,
-    StdinSource, StdoutSink, SureFiles, SureSink, SureSource, TakeFault, read_whole, write_whole,
+    DiskFiles, FILE_LIMIT, Failed, Files, Gate, MemFiles, MemSink, MemSource, OpenGate, PutFault,
+    Sink, Source, StdinSource, StdoutSink, SureFiles, SureSink, SureSource, TakeFault, read_whole,
+    write_whole,
 };
 use std::alloc::{AllocError, Global};
 use std::io::{ErrorKind, Read, Write};
@@ -48,6 +49,50 @@ impl Write for Closed {
     }
 
     fn flush(&mut self) -> io::Result<()> {
+        Ok(())
+    }
+}
+
+// A reader whose first call is interrupted, and which then gives a byte.
+#[derive(Drop)]
+struct Stutters {
+    calls: u32,
+}
+
+impl Read for Stutters {
+    fn read(&mut self, buf: &mut [u8]) -> io::Result<usize> {
+        self.calls = self.calls.saturating_add(1);
+        if self.calls == 1 || buf.is_empty() {
+            return Err(ErrorKind::Interrupted.into());
+        }
+        if self.calls > 2 {
+            return Ok(0);
+        }
+        buf[0] = b'x';
+        Ok(1)
+    }
+}
+
+// A writer whose first call fails, and which then takes all.
+#[derive(Drop)]
+struct Hiccups {
+    calls: u32,
+}
+
+impl Write for Hiccups {
+    fn write(&mut self, buf: &[u8]) -> io::Result<usize> {
+        self.calls = self.calls.saturating_add(1);
+        if self.calls == 1 {
+            return Err(ErrorKind::BrokenPipe.into());
+        }
+        Ok(buf.len())
+    }
+
+    fn flush(&mut self) -> io::Result<()> {
+        self.calls = self.calls.saturating_add(1);
+        if self.calls == 1 {
+            return Err(ErrorKind::Interrupted.into());
+        }
         Ok(())
     }
 }
@@ -148,6 +193,41 @@ fn streams_that_fail_are_counted(rt: HostRuntime) {
     assert_eq!(rt; sink.faults(), 1);
 }
 
+// The fault is told at the call that failed, and the call isn't made again.
+#[test]
+fn a_stream_that_fails_once_is_not_asked_again(rt: HostRuntime) -> Result<(), Fail> {
+    let alloc = rt.alloc();
+    let mut source = StdinSource::new(Stutters { calls: 0 });
+    assert!(rt; source.reason().is_none());
+    assert_eq!(rt;
+        read_whole(alloc, &mut source, 9),
+        Err(TakeFault::Failed),
+        "the first call is interrupted"
+    );
+    assert_eq!(rt; source.faults(), 1);
+    let reason = source.reason().ok_or("no reason")?;
+    assert_eq!(rt; reason.kind(), ErrorKind::Interrupted);
+    assert_eq!(rt;
+        read_whole(alloc, &mut source, 9)?.as_slice(),
+        b"x".as_slice(),
+        "nothing is lost"
+    );
+    assert_eq!(rt; source.faults(), 1);
+    let mut sink = StdoutSink::new(Hiccups { calls: 0 });
+    assert_eq!(rt; write_whole(&mut sink, b"abc"), Err(PutFault::Failed));
+    assert_eq!(rt; sink.faults(), 1);
+    let reason = sink.reason().ok_or("no reason")?;
+    assert_eq!(rt; reason.kind(), ErrorKind::BrokenPipe);
+    assert_eq!(rt; write_whole(&mut sink, b"abc"), Ok(()));
+    assert_eq!(rt; sink.faults(), 1);
+    let mut sink = StdoutSink::new(Hiccups { calls: 0 });
+    assert_eq!(rt; sink.flush(), Err(Failed), "the flush is interrupted");
+    assert_eq!(rt; sink.faults(), 1);
+    assert_eq!(rt; sink.flush(), Ok(()));
+    assert_eq!(rt; sink.faults(), 1);
+    Ok(())
+}
+
 #[test]
 fn streams_hand_bytes_on(rt: HostRuntime) -> Result<(), Fail> {
     let alloc = rt.alloc();
@@ -191,6 +271,43 @@ fn files_of_the_system(rt: HostRuntime) -> Result<(), Fail> {
         "it never ends"
     );
     assert_eq!(rt; files.faults(), 1);
+    Ok(())
+}
+
+// A name is taken as it is, with the blank at its end.
+#[test]
+fn a_name_that_ends_with_a_blank_is_a_name_of_its_own(rt: HostRuntime) -> Result<(), Fail> {
+    const NAME: &str = "outside_name_with_a_blank ";
+    let alloc = rt.alloc();
+    fs::write(&rt, NAME, b"x".as_slice())?;
+    let mut files = DiskFiles::new(&rt);
+    assert!(rt; files.failure().is_none());
+    assert_eq!(rt; files.take(alloc, NAME)?.as_slice(), b"x".as_slice());
+    assert_eq!(rt; files.take(alloc, NAME.trim_end()), Err(TakeFault::Failed));
+    fs::remove_file(&rt, NAME)?;
+    let failure = files.failure().ok_or("no failure")?;
+    assert_eq!(rt; failure.name(), Some(NAME.trim_end()));
+    let reason = failure.reason().ok_or("no reason")?;
+    assert_eq!(rt; reason.kind(), ErrorKind::NotFound);
+    Ok(())
+}
+
+// 64 MiB, and one byte more.
+#[test]
+fn a_file_of_the_limit_is_taken_and_no_greater_one(rt: HostRuntime) -> Result<(), Fail> {
+    const NAME: &str = "outside_file_of_the_limit";
+    let alloc = rt.alloc();
+    let mut files = DiskFiles::new(&rt);
+    let mut bytes = vec![in alloc; b'x'; FILE_LIMIT]?;
+    fs::write(&rt, NAME, &bytes)?;
+    let taken = files.take(alloc, NAME)?;
+    assert_eq!(rt; taken.len(), FILE_LIMIT);
+    assert!(rt; taken == bytes, "all its bytes");
+    bytes.push(b'x')?;
+    fs::write(&rt, NAME, &bytes)?;
+    assert_eq!(rt; files.take(alloc, NAME), Err(TakeFault::TooBig));
+    assert_eq!(rt; files.faults(), 0);
+    fs::remove_file(&rt, NAME)?;
     Ok(())
 }
 

@@ -98,11 +98,15 @@ module _ (pairs : List Pair) (name : List ℕ) where
         → ((a : A) × TakesText name (Some pairs) (λ b. Says b a)) ⊎ ((k : ℕ) × (v : FileWhat) × IsFaulty name (Some pairs) FaultAt k v)
     file_reading bytes here =
         elim (cases_lt file_limit (length bytes)) [
-          | inl long ↦ inr (0, TooBig, inl (record {
+          | inl long ↦ inr (
+            0,
+            TooBig,
+            inl (record {
               too_big = subst (λ o. IsSomeAnd o (λ b. file_limit < length b)) (sym here) long;
               at_no_line = refl;
               told = refl;
-            }))
+            }),
+          )
           | inr within ↦ of_bytes bytes here within (is.some bytes)
         ]
 

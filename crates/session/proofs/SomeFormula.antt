@@ -64,11 +64,11 @@ split_or_free ending (b ∷ bs) =
       | inl here ↦ inl (record { front = []; rest = bs; split = ap (λ z. z ∷ bs) here; free = All-nil (λ byte. byte ≢ ending) })
       | inr other ↦ elim (split_or_free ending bs) [
         | inl s ↦ inl (record {
-            front = b ∷ s.front;
-            rest = s.rest;
-            split = ap (λ z. b ∷ z) s.split;
-            free = All-cons (λ byte. byte ≢ ending) b s.front other s.free;
-          })
+          front = b ∷ s.front;
+          rest = s.rest;
+          split = ap (λ z. b ∷ z) s.split;
+          free = All-cons (λ byte. byte ≢ ending) b s.front other s.free;
+        })
         | inr free ↦ inr (All-cons (λ byte. byte ≢ ending) b bs other free)
       ]
     ]
@@ -102,10 +102,10 @@ threshold_or_not text =
       | inr none ↦ inr (λ n. none (record { number = n.number; rest = n.rest; is = decimal_before text n.rest n.number n.is }))
       | inl n ↦ elim (cases_lt (10 ^ n.number.x) n.number.c) [
         | inr small ↦ inl (record {
-            number = n.number;
-            rest = n.rest;
-            is = record { word = n.is.word; is_word = record { decimal = n.is.is_word; at_most_one = small }; split = n.is.split };
-          })
+          number = n.number;
+          rest = n.rest;
+          is = record { word = n.is.word; is_word = record { decimal = n.is.is_word; at_most_one = small }; split = n.is.split };
+        })
         | inl great ↦ inr (λ m.
             let same = number_before_unique 125 text n.rest m.rest n.number m.number (omega arith) (λ z. omega arith) n.is (decimal_before text m.rest m.number m.is) in
             let small : n.number.c ≤ 10 ^ n.number.x = subst (λ z. z.c ≤ 10 ^ z.x) (sym same.0) m.is.is_word.at_most_one in

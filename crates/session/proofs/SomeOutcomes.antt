@@ -117,24 +117,23 @@ module _ (pairs : List Pair) (left : List ℕ) (names : FileNames) where
         let bytes = bytes_of (file_named name pairs) there in
         elim (file.file_reading pairs name (λ text a. RewSays text tra.n a) (λ text. RewFaultAt text tra.n) (file.rew_reading tra.n) bytes.0 bytes.1) [
           | inl r ↦ formulas (record {
+            tra = tra;
+            lab = lab;
+            rew = Some r.0;
+            takes_tra = takes_tra;
+            takes_lab = takes_lab;
+            takes_rew = subst (λ name. TakesRew tra.n name (Some pairs) (Some r.0)) (sym e) r.1;
+          })
+          | inr f ↦ faulty (record { file = which.RewFile; line = f.0; what = f.1 }) (
+            record {
               tra = tra;
               lab = lab;
-              rew = Some r.0;
               takes_tra = takes_tra;
               takes_lab = takes_lab;
-              takes_rew = subst (λ name. TakesRew tra.n name (Some pairs) (Some r.0)) (sym e) r.1;
-            })
-          | inr f ↦ faulty (record { file = which.RewFile; line = f.0; what = f.1 })
-              (
-                record {
-                  tra = tra;
-                  lab = lab;
-                  takes_tra = takes_tra;
-                  takes_lab = takes_lab;
-                  faulty = subst (λ name. IsRewFaulty tra.n name (Some pairs) f.0 f.1) (sym e) f.2;
-                },
-                refl,
-              )
+              faulty = subst (λ name. IsRewFaulty tra.n name (Some pairs) f.0 f.1) (sym e) f.2;
+            },
+            refl,
+          )
         ]
 
   labels : (tra : TraLists) → TakesTra names.tra (Some pairs) tra → AreThere names pairs → Found

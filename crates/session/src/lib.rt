@@ -25,5 +25,3 @@ pub use top::serve;
 
 #[cfg(test)]
 mod tests;
-#[cfg(test)]
-mod until_tests;

@@ -1,0 +1,144 @@
+// Next operators: verdicts, brackets, and which inputs are one.
+use super::*;
+
+#[test]
+fn a_next_formula_is_answered_whatever_one_call_moves(rt: HostRuntime) -> Result<(), Fail> {
+    for formula in [FORMULA, b"P{>=0.3}[X a]"] {
+        for cut in [0, 1, 7] {
+            let (status, text) = serve_input(&rt, Input::ctmc(TRA, LAB, formula), cut)?;
+            assert_eq!(rt; status, Status::Done, "at {cut}");
+            assert_eq!(rt; str::from_utf8(&text)?, ANSWER, "at {cut}");
+        }
+    }
+    Ok(())
+}
+
+// The formula may name any of the declared labels; a state may have several, on several lines.
+#[test]
+fn any_declared_label_can_be_asked_for(rt: HostRuntime) -> Result<(), Fail> {
+    let lab = b"#DECLARATION\r\nup a\r\ndown\r\n#END\r\n2 a\r\n1 up\r\n2 down down\r\n3\r\n2 up";
+    let cases: [(&[u8], &str); 3] = [
+        (FORMULA, ANSWER),
+        (
+            b"P{>0}[X down]",
+            "formula P{>0}[X down]\n1 satisfied 0.300000000000 0.300000000000\n2 refuted 0.000000000000 0.000000000000\n3 refuted 0.000000000000 0.000000000000\n",
+        ),
+        (
+            b"P{>=1}[tt U[0,0] up]",
+            "formula P{>=1}[tt U[0,0] up]\nhorizon 30\n1 satisfied 1.000000000000 1.000000000000\n2 satisfied 1.000000000000 1.000000000000\n3 refuted 0.000000000000 0.000000000932\n",
+        ),
+    ];
+    for (formula, want) in cases {
+        expect(&rt, Input::ctmc(TRA, lab, formula), Status::Done, want)?;
+    }
+    let other = Input::ctmc(TRA, lab, b"P{>0}[X do]");
+    expect(
+        &rt,
+        other,
+        Status::NotBuilt(Part::Formula),
+        "not built formula\n",
+    )
+}
+
+#[test]
+fn a_formula_that_is_not_plain_is_not_built(rt: HostRuntime) -> Result<(), Fail> {
+    let texts: [&[u8]; 18] = [
+        b"",
+        b"P{=0.3}[X a]\n",
+        b"P{>= 0.3}[X a]\n",
+        b"P{>=-0.3}[X a]\n",
+        b"P{>=.}[X a]\n",
+        b"P{>=1.5}[X a]\n",
+        b"P{>=1e-19}[X a]\n",
+        b"P{>=0.3}[X  a]\n",
+        b"P{>=0.3}[X b]\n",
+        b"P{>=0.3}[X tt]\n",
+        b"P{>=0.3}[X a\n",
+        b"P{>=0.3}[X a] \n",
+        b"P{>=0.3}[X a]\n\n",
+        b"P{>=0.3}[tt U a]\n",
+        b"P{>=0.3}[tt U[0,] a]\n",
+        b"P{>=0.3}[tt U[1,2] a]\n",
+        b"P{>=0.3}[tt U[0, 1] a]\n",
+        b"P{>=0.3}[a U[0,1] a]\n",
+    ];
+    for text in texts {
+        let input = Input::ctmc(TRA, LAB, text);
+        expect(
+            &rt,
+            input,
+            Status::NotBuilt(Part::Formula),
+            "not built formula\n",
+        )?;
+    }
+    Ok(())
+}
+
+// State 1 has the probability 3/10: at a threshold that equals it, one unit of 10^-18 below it and one above.
+#[test]
+fn a_probability_is_compared_exactly(rt: HostRuntime) -> Result<(), Fail> {
+    let cases = [
+        ("<0.3", "<0.3", "refuted"),
+        ("<=3e-1", "<=0.3", "satisfied"),
+        (">.30", ">0.3", "refuted"),
+        (">=00.3", ">=0.3", "satisfied"),
+        ("<0.299999999999999999", "<0.299999999999999999", "refuted"),
+        (
+            "<=0.299999999999999999",
+            "<=0.299999999999999999",
+            "refuted",
+        ),
+        (
+            ">0.299999999999999999",
+            ">0.299999999999999999",
+            "satisfied",
+        ),
+        (
+            ">=0.299999999999999999",
+            ">=0.299999999999999999",
+            "satisfied",
+        ),
+        (
+            "<0.300000000000000001",
+            "<0.300000000000000001",
+            "satisfied",
+        ),
+        (
+            "<=0.300000000000000001",
+            "<=0.300000000000000001",
+            "satisfied",
+        ),
+        (">0.300000000000000001", ">0.300000000000000001", "refuted"),
+        (
+            ">=0.300000000000000001",
+            ">=0.300000000000000001",
+            "refuted",
+        ),
+    ];
+    for (written, canonical, verdict) in cases {
+        let formula = format!(in rt.alloc(); "P{{{written}}}[X a]\n")?;
+        let front = format!(in rt.alloc();
+            "formula P{{{canonical}}}[X a]\n1 {verdict} 0.300000000000 0.300000000000\n"
+        )?;
+        expect_front(
+            &rt,
+            Input::ctmc(TRA, LAB, formula.as_bytes()),
+            front.as_str(),
+        )?;
+    }
+    Ok(())
+}
+
+// A loop counts in the exit rate, and a state that is never left has the probability 0.
+#[test]
+fn a_bracket_is_rounded_outward(rt: HostRuntime) -> Result<(), Fail> {
+    let tra = b"STATES 2\nTRANSITIONS 2\n1 1 1\n1 2 2\n";
+    let text =
+        "formula P{<=0}[X a]\n1 refuted 0.666666666666 0.666666666667\n2 satisfied 0.000000000000 0.000000000000\n";
+    expect(
+        &rt,
+        Input::ctmc(tra, LAB, b"P{<=0}[X a]"),
+        Status::Done,
+        text,
+    )
+}
