@@ -2,7 +2,7 @@
 from fractions import Fraction
 from typing import NamedTuple, Optional
 
-from damage import DAMAGES, changed_bytes, odd_end_of_line, odd_end_of_text
+from damage import DAMAGES, changed_bytes, odd_end_of_line, odd_end_of_text, two_damages
 from decimals import Decimal, decimal_of_units
 from draw_formulas import (OTHER_ENDS, OTHER_FORMS, OTHER_LABELS, draw_comparison, draw_next, draw_until, faulty_number, high_threshold,
                            is_entered, longest_input, near_label, other_blank, other_end, other_form, other_label, too_long_input, written)
@@ -18,7 +18,7 @@ ODD_NAMES = [b"-", b"M", b"two words", b"mod\xc3\xa8le", b"a-b", b"./N.tra", b"\
 WORDS = [b"ctmc", b"cmrm", b"M.tra", b"M.lab", b"M.rew", b"", b"-"]
 NO_FILE_NAMES = [b"--workers", b"--workers=2", b"--bits", b"--jumps", b"--watch", b"--state", b"--help", b"--version", b"-h", b"--",
                  b"-M.tra", b"\xff", b"M\xff.tra", b"\xc3", b"\xed\xa0\x80", b"\xc0\xaf", b"\xf5\x80\x80\x80"]
-NO_COMMANDS = [b"CTMC", b"ctmc ", b"ctmc\n", b"dtmc", b"csl", b"generate", b"", b"-", *NO_FILE_NAMES]
+NO_COMMANDS = [b"CTMC", b"ctmc ", b"ctmc\n", b"ctm", b"ctmcc", b"cmr", b"dtmc", b"generate", b"", b"-", b"--help", b"\xff"]
 
 
 class Case(NamedTuple):
@@ -145,19 +145,12 @@ def far_too_long_until(draws):
     return case_of(draws, model.texts, written(draws, formula))
 
 
-def largest_until(draws):
-    states = draw_many_states(draws)
-    return until_at_horizon(draws, states, MOST_WORDS // states - 1, beyond=False)
-
-
-def too_large_until(draws):
-    states = draw_many_states(draws)
-    return until_at_horizon(draws, states, MOST_WORDS // states - 1, beyond=True)
-
-
-def draw_many_states(draws):
-    """With fewer states the number of jumps is at its limit before the number of words."""
-    return draws.mostly(draws.between(512, 3000), 512, MOST_STATES)
+def until_of_most_words(most_states=False, beyond=False):
+    """Words to their limit, with so many states that the number of jumps isn't at its own before."""
+    def case(draws):
+        states = MOST_STATES if most_states else draws.mostly(draws.between(512, 3000), 512)
+        return until_at_horizon(draws, states, MOST_WORDS // states - 1, beyond)
+    return case
 
 
 # Formulas that aren't answered.
@@ -275,13 +268,31 @@ def wrong_words(draws):
     return drawn._replace(words=words)
 
 
-def word_that_is_no_name(draws):
-    """A file's name begins with `-` or isn't UTF-8; or the first word is another one."""
-    model = draw_model(draws, 1)
-    drawn = case_of(draws, model.texts, written(draws, draw_formula(draws, model)))
-    place = draws.below(len(drawn.words))
-    other = draws.one_of(NO_COMMANDS if place == 0 else NO_FILE_NAMES)
-    return drawn._replace(words=[*drawn.words[:place], other, *drawn.words[place + 1:]])
+def with_word(draw_place, word):
+    """A command with this word in place of the one at a place that is drawn."""
+    def case(draws):
+        model = draw_model(draws, 1)
+        drawn = case_of(draws, model.texts, written(draws, draw_formula(draws, model)))
+        place = draw_place(draws, len(drawn.words))
+        return drawn._replace(words=[*drawn.words[:place], word, *drawn.words[place + 1:]])
+    return case
+
+
+def number_of_files(kind, count):
+    """The first word with this many names of files."""
+    def case(draws):
+        model = draw_model(draws, 1)
+        drawn = case_of(draws, model.texts, written(draws, draw_formula(draws, model)), THREE_FILES)
+        return drawn._replace(words=[kind, *(drawn.words[1:] * 2)[:count]])
+    return case
+
+
+def first_place(draws, count):
+    return 0
+
+
+def place_of_file(draws, count):
+    return draws.between(1, count - 1)
 
 
 def answer_kinds():
@@ -294,8 +305,8 @@ def answer_kinds():
     yield "longest until", [longest_until]
     yield "until a jump too long", [too_long_until] * 2
     yield "until far too long", [far_too_long_until]
-    yield "largest until", [largest_until]
-    yield "until a jump too large", [too_large_until]
+    yield "largest until", [until_of_most_words(most_states=True), until_of_most_words()]
+    yield "until a jump too large", [until_of_most_words(most_states=True, beyond=True), until_of_most_words(beyond=True)]
 
 
 def formula_kinds():
@@ -313,6 +324,7 @@ def file_kinds():
     for file, damages in DAMAGES.items():
         for name, ways in damages.items():
             yield f"{file}: {name}", [damaged(file, damage) for damage in ways]
+        yield f"{file}: any two of these", [damaged(file, two_damages(file))] * 6
         yield f"{file}: odd end of a line", [changed_text(file, odd_end_of_line)] * 2
         yield f"{file}: odd end", [changed_text(file, odd_end_of_text)] * 2
         yield f"{file}: changed bytes", [changed_text(file, changed_bytes)] * 6
@@ -328,7 +340,9 @@ def outside_kinds():
     yield "output that fails", [output_fails] * 2
     yield "any words", [any_words] * 4
     yield "wrong words", [wrong_words] * 6
-    yield "words that are no names", [word_that_is_no_name] * 6
+    yield "number of files", [number_of_files(kind, count) for kind in (b"ctmc", b"cmrm") for count in range(6)]
+    yield "first word is no command", [with_word(first_place, word) for word in NO_COMMANDS]
+    yield "word is no file name", [with_word(place_of_file, word) for word in NO_FILE_NAMES]
 
 
 # Each kind of drawing: its name, and the functions that take turns in it, each once in a round.

@@ -5,7 +5,7 @@ at which line, isn't said here: expected.py reads the file. Each kind of damage 
 """
 from decimals import Decimal
 from draw_models import limit_rates, reward_line, transition_line
-from draw_numbers import NO_NUMBERS, no_number, too_big, too_fine, whole_word
+from draw_numbers import NO_NUMBERS, no_number, too_big, too_fine, too_fine_and_big, whole_word
 
 NO_WHOLE_NUMBERS = [b"-1", b"+1", b"1.0", b"1e0", b"x", b"1x", b"0x1", b"1_0", b"--", b"\xd9\xa3", b"1\x00", b"1\r1"]
 NO_NAMES = [
@@ -34,8 +34,10 @@ def line_before(line, other):
 def another_word(line, word, make):
     """In place of the word stands one that `make` draws. The line is a number, or a function that finds one."""
     def damage(draws, draft, lines):
+        changed = list(lines)
         place = line if isinstance(line, int) else line(draws, lines)
-        return [*lines[:place], [*lines[place][:word], make(draws, draft), *lines[place][word + 1:]], *lines[place + 1:]]
+        changed[place] = [*lines[place][:word], make(draws, draft), *lines[place][word + 1:]]
+        return changed
     return damage
 
 
@@ -49,6 +51,10 @@ def some_word(words):
 
 def drawn_word(draw):
     return lambda draws, draft: draw(draws)
+
+
+def both(first, second):
+    return lambda draws, draft, lines: second(draws, draft, first(draws, draft, lines))
 
 
 def no_state(draws, draft):
@@ -143,10 +149,11 @@ TRA_DAMAGES = {
     "source no state": [another_word(TRANSITION, 0, no_state)],
     "target no state": [another_word(TRANSITION, 1, no_state)],
     "rate no number": each_word(TRANSITION, 2, NO_NUMBERS),
-    "rate too fine": [another_word(TRANSITION, 2, drawn_word(too_fine))] * 3,
+    "rate too fine": [another_word(TRANSITION, 2, drawn_word(draw)) for draw in (too_fine, too_fine, too_fine_and_big)],
     "rate too big": [another_word(TRANSITION, 2, drawn_word(too_big))] * 3,
     "a pair again": [pair_again(None, None), pair_again(Decimal(0, 0), None), pair_again(None, Decimal(0, 0))],
     "rates too great": [rates_too_great] * 3,
+    "rates too great, and another fault": [both(rates_too_great, other) for other in (transition_more, *each_word(-1, 2, [b"-1"]))],
 }
 
 
@@ -258,19 +265,35 @@ def reward_too_great(reward):
 
 
 REWARD = body_line(0)
+# The least whole number that reaches 2^63 where there is one decimal.
+LEAST_GREAT = Decimal(2 ** 63 // 10 + 1, 0)
 REW_DAMAGES = {
     "a word left out": [word_left_out(REWARD)],
     "a word more": [word_more(REWARD)],
     "state no number": [another_word(REWARD, 0, some_word(NO_WHOLE_NUMBERS))] * 2,
     "no state": [another_word(REWARD, 0, no_state)] * 2,
     "reward no number": [another_word(REWARD, 1, drawn_word(no_number))] * 2,
-    "reward too fine": [another_word(REWARD, 1, drawn_word(too_fine))] * 2,
+    "reward too fine": [another_word(REWARD, 1, drawn_word(draw)) for draw in (too_fine, too_fine_and_big)],
     "reward too big": [another_word(REWARD, 1, drawn_word(too_big))] * 2,
     "a state again": [state_again] * 2,
-    "reward too great": [reward_too_great(Decimal(2 ** 63 // 10 + 1, 0)), reward_too_great(Decimal(10 ** 18 - 1, 0))],
+    "reward too great": [reward_too_great(LEAST_GREAT), reward_too_great(Decimal(10 ** 18 - 1, 0))],
+    "reward too great, and another fault": [both(reward_too_great(LEAST_GREAT), other) for other in each_word(-1, 1, [b"-1"])],
 }
 
 DAMAGES = {"tra": TRA_DAMAGES, "lab": LAB_DAMAGES, "rew": REW_DAMAGES}
+
+
+def two_damages(file):
+    """Any two kinds of damage, one after the other."""
+    def damage(draws, draft, lines):
+        first, second = (draws.one_of(draws.one_of(list(DAMAGES[file].values()))) for _ in range(2))
+        damaged = first(draws, draft, lines)
+        try:
+            return second(draws, draft, damaged)
+        except (IndexError, ValueError):
+            # The line that the second one changes is gone.
+            return damaged
+    return damage
 
 
 # Changes of a text that know nothing of its format.

@@ -46,11 +46,15 @@ def no_number(draws):
 
 
 def too_fine(draws):
-    """A number that needs more than 18 decimals; it may have too many digits too, which isn't what is told."""
+    """A number that needs more than 18 decimals."""
     if draws.chance(1, 8):
         return b"1e-" + b"9" * 60
-    digits = draws.mostly(1, 19, 30) if draws.chance(1, 2) else draws.between(1, 18)
-    return spelled(draws, Decimal(number_of_digits(draws, digits, 1), draws.mostly(19, 20, 40)))
+    return spelled(draws, Decimal(number_of_digits(draws, draws.between(1, 18)), draws.mostly(19, 20, 40)))
+
+
+def too_fine_and_big(draws):
+    """A number that needs too many decimals, which is told, and has too many digits."""
+    return spelled(draws, Decimal(number_of_digits(draws, draws.between(19, 40)), draws.mostly(19, 20, 40)))
 
 
 def too_big(draws):
@@ -59,13 +63,10 @@ def too_big(draws):
         return b"1e" + b"9" * 60
     if draws.chance(1, 4):
         return spelled(draws, Decimal(10 ** 18, 0))
-    decimals = draws.mostly(0, 1, 17, 18)
-    return spelled(draws, Decimal(number_of_digits(draws, draws.between(19, 22), 1), decimals))
+    return spelled(draws, Decimal(number_of_digits(draws, draws.between(19, 22)), draws.mostly(0, 1, 17, 18)))
 
 
-def number_of_digits(draws, digits, last):
-    """A number with so many digits, the last of which is at least `last`."""
-    if digits == 1:
-        return draws.between(max(1, last), 9)
-    front = draws.between(10 ** (digits - 2), 10 ** (digits - 1) - 1)
-    return front * 10 + draws.between(last, 9)
+def number_of_digits(draws, digits):
+    """A number with so many digits, the last of which isn't 0."""
+    front = draws.between(10 ** (digits - 2), 10 ** (digits - 1) - 1) if digits > 1 else 0
+    return front * 10 + draws.between(1, 9)

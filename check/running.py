@@ -37,9 +37,9 @@ def run(program, case, folder):
     """Runs the program in the folder of the case's files, with the input as a file, whose place tells what was taken of it."""
     source = os.open(os.path.join(folder, "input"), os.O_RDONLY)
     try:
-        output = open("/dev/full", "wb") if case.output_fails else subprocess.PIPE
-        done = subprocess.run([program, *case.words], cwd=os.path.join(folder, "files"), stdin=source, stdout=output,
-                              stderr=subprocess.DEVNULL, timeout=SECONDS, check=False)
+        with open("/dev/full", "wb") as full:
+            done = subprocess.run([program, *case.words], cwd=os.path.join(folder, "files"), stdin=source, timeout=SECONDS, check=False,
+                                  stdout=full if case.output_fails else subprocess.PIPE, stderr=subprocess.DEVNULL)
         taken = 0 if case.formula_input is None else os.lseek(source, 0, os.SEEK_CUR)
         return Run(done.returncode, done.stdout or b"", taken)
     except subprocess.TimeoutExpired as late:
