@@ -2,7 +2,8 @@
 from fractions import Fraction
 from typing import NamedTuple, Optional
 
-from damage import DAMAGES, changed_bytes, odd_end_of_line, odd_end_of_text, two_damages
+from changed_text import changed_bytes, odd_end_of_line, odd_end_of_text
+from damage import DAMAGES, two_damages
 from decimals import Decimal, decimal_of_units
 from draw_formulas import (OTHER_ENDS, OTHER_FORMS, OTHER_LABELS, draw_comparison, draw_next, draw_until, faulty_number, high_threshold,
                            is_entered, longest_input, near_label, other_blank, other_end, other_form, other_label, too_long_input, written)

@@ -11,7 +11,7 @@ from rounded import ONE, bounded_until_words
 FINEST = 10 ** 18
 UNITS = 10 ** 12
 
-# Inputs over the label a that are of no form of today, or of no form at all.
+# Inputs over the label a that are of a form that isn't read, or of none.
 OTHER_FORMS = [
     b"", b"a", b"tt", b"!a", b"a && a", b"(a)", b"quit", b"P{>=0.5}[X tt]", b"P{>=0.5}[X !a]", b"P{>=0.5}[X (a)]", b"P{>=0.5}[tt U a]",
     b"P{>=0.5}[a U[0,1] a]", b"P{>=0.5}[ff U[0,1] a]", b"P{>=0.5}[tt U[0,1] tt]", b"P{>=0.5}[tt U[1,2] a]", b"P{>=0.5}[tt U[0.0,1] a]",

@@ -1,7 +1,7 @@
 """What the program must print and end with, from the words, the files and the formula input alone."""
 from typing import NamedTuple, Optional
 
-from decimals import canonical_text, twelve_decimals
+from decimals import twelve_decimals
 from exact import horizon, next_probability, time_load
 from formulas import COMPARISONS, Next, Until, formula_text, read_formula
 from model_files import Chain, FileFault, read_lab, read_rew, read_tra

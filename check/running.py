@@ -10,9 +10,10 @@ PLAIN_BYTES = set(b"ABCDEFGHIJKLMNOPQRSTUVWXYZabcdefghijklmnopqrstuvwxyz01234567
 
 
 class Run(NamedTuple):
-    """The exit status (or what came in place of one), the bytes on standard output, and how much of the input was taken."""
+    """The exit status (or what came in place of one), the bytes on the two outputs, and how much of the input was taken."""
     status: object
     text: bytes
+    errors: bytes
     taken: int
 
 
@@ -39,11 +40,11 @@ def run(program, case, folder):
     try:
         with open("/dev/full", "wb") as full:
             done = subprocess.run([program, *case.words], cwd=os.path.join(folder, "files"), stdin=source, timeout=SECONDS, check=False,
-                                  stdout=full if case.output_fails else subprocess.PIPE, stderr=subprocess.DEVNULL)
+                                  stdout=full if case.output_fails else subprocess.PIPE, stderr=subprocess.PIPE)
         taken = 0 if case.formula_input is None else os.lseek(source, 0, os.SEEK_CUR)
-        return Run(done.returncode, done.stdout or b"", taken)
+        return Run(done.returncode, done.stdout or b"", done.stderr, taken)
     except subprocess.TimeoutExpired as late:
-        return Run(f"none in {SECONDS} s", late.stdout or b"", 0)
+        return Run(f"none in {SECONDS} s", late.stdout or b"", late.stderr or b"", 0)
     finally:
         os.close(source)
 
@@ -52,6 +53,7 @@ def keep(program, case, folder, wanted, come):
     """Leaves in the folder what was wanted and what came, and a script that runs the program again; answers its command."""
     write(os.path.join(folder, "wanted"), wanted.text)
     write(os.path.join(folder, "printed"), come.text)
+    write(os.path.join(folder, "errors"), come.errors)
     words = b" ".join(quoted(word) for word in [os.fsencode(program), *case.words])
     command = words + b" < ../input" + (b" > /dev/full" if case.output_fails else b"")
     script = os.path.join(folder, "again")
