@@ -5,13 +5,13 @@ from typing import NamedTuple, Optional
 from changed_text import changed_bytes, odd_end_of_line, odd_end_of_text
 from damage import DAMAGES, two_damages
 from decimals import Decimal, decimal_of_units
-from draw_formulas import (OTHER_ENDS, OTHER_FORMS, OTHER_LABELS, draw_comparison, draw_next, draw_until, faulty_number, high_threshold,
-                           is_entered, longest_input, near_label, other_blank, other_end, other_form, other_label, too_long_input, written)
+from draw_formulas import draw_comparison, draw_next, draw_until, has_choice, has_way, written
 from draw_models import LINES_OF, Draft, draw_draft, draw_marks, draw_names, laid_out, limit_model
 from draws import Draws
 from expected import MOST_JUMPS, MOST_WORDS
 from formulas import Until
 from model_files import FILE_LIMIT, MOST_STATES, Chain, FileFault, Labels, read_lab, read_tra
+from other_inputs import OTHER_INPUTS
 from rounded import UNTIL_BITS
 
 TWO_FILES, THREE_FILES = ("tra", "lab"), ("tra", "lab", "rew")
@@ -73,16 +73,21 @@ def case_of(draws, texts, formula_input, files=None):
 
 # Answers.
 
+def draw_model_with(draws, states, is_wanted):
+    """Mostly a model that is as wanted; such are rare, and the others are seldom worth a question."""
+    model = draw_model(draws, states)
+    while states > 1 and draws.chance(15, 16) and not is_wanted(model.chain, model.labels):
+        model = draw_model(draws, states)
+    return model
+
+
 def next_case(draws):
-    model = draw_model(draws, draws.mostly(draws.between(1, 6), 1, 2, 20))
+    model = draw_model_with(draws, draws.mostly(draws.between(2, 6), 1, 20), has_choice)
     return case_of(draws, model.texts, written(draws, draw_next(draws, model.chain, model.labels)))
 
 
 def until_case(draws, states, greatest_load):
-    """Mostly over a model in which some label is reached from elsewhere: else all numbers are 0 and 1."""
-    model = draw_model(draws, states)
-    while states > 1 and draws.chance(7, 8) and not any(is_entered(model.chain, goal) for goal in model.labels.marked.values()):
-        model = draw_model(draws, states)
+    model = draw_model_with(draws, states, has_way)
     return case_of(draws, model.texts, written(draws, draw_until(draws, model.chain, model.labels, greatest_load)))
 
 
@@ -102,11 +107,6 @@ def greatest_sums(draws):
     """The rates out of a state add up to one unit less than 2^63."""
     model = spell_model(draws, limit_model(draws, 2 ** 63 - 1))
     return case_of(draws, model.texts, written(draws, draw_formula(draws, model)))
-
-
-def longest_formula(draws):
-    model = draw_model(draws, 2)
-    return case_of(draws, model.texts, longest_input(draws, draw_next(draws, model.chain, model.labels)))
 
 
 # The limits of an until, reached exactly and passed by the least bit of time.
@@ -154,7 +154,7 @@ def until_of_most_words(most_states=False, beyond=False):
     return case
 
 
-# Formulas that aren't answered.
+# Other formula inputs.
 
 def other_input(draw_input):
     """The input is drawn from a formula over a sound model."""
@@ -162,14 +162,6 @@ def other_input(draw_input):
         model = draw_model(draws, draws.between(1, 3))
         return case_of(draws, model.texts, draw_input(draws, draw_formula(draws, model)))
     return case
-
-
-def other_inputs(draw_inputs):
-    return [other_input(draw_input) for draw_input in draw_inputs]
-
-
-def formula_with_changed_bytes(draws, formula):
-    return changed_bytes(draws, written(draws, formula))
 
 
 # Files that are wrong.
@@ -302,7 +294,6 @@ def answer_kinds():
     yield "wide until", [wide_until] * 5
     yield "long until", [long_until] * 3
     yield "greatest sums of rates", [greatest_sums] * 3
-    yield "longest formula input", [longest_formula]
     yield "longest until", [longest_until]
     yield "until a jump too long", [too_long_until] * 2
     yield "until far too long", [far_too_long_until]
@@ -311,14 +302,8 @@ def answer_kinds():
 
 
 def formula_kinds():
-    yield "formula: other form", other_inputs(map(other_form, OTHER_FORMS))
-    yield "formula: other end", other_inputs(map(other_end, OTHER_ENDS))
-    yield "formula: other label", other_inputs([near_label, near_label, *map(other_label, OTHER_LABELS)])
-    yield "formula: other blank", other_inputs([other_blank] * 6)
-    yield "formula: high threshold", other_inputs([high_threshold] * 3)
-    yield "formula: faulty number", other_inputs([faulty_number] * 6)
-    yield "formula: changed bytes", other_inputs([formula_with_changed_bytes] * 6)
-    yield "formula: too long input", other_inputs([too_long_input])
+    for name, ways in OTHER_INPUTS.items():
+        yield f"formula: {name}", [other_input(draw_input) for draw_input in ways]
 
 
 def file_kinds():

@@ -1,36 +1,29 @@
-"""Formulas with thresholds at and near the numbers that decide them, and inputs of other forms."""
+"""Formulas with thresholds at and near the numbers that decide them, in any spelling."""
 import math
 from fractions import Fraction
 
-from decimals import Decimal, canonical_text, decimal_of_units
-from draw_numbers import no_number, spelled, too_big, too_fine
+from decimals import Decimal, decimal_of_units
+from draw_numbers import spelled
 from exact import greatest_exit_rate, next_probability
-from formulas import COMPARISONS, FORMULA_LIMIT, Next, Until, formula_text
+from formulas import COMPARISONS, Next, Until
 from rounded import ONE, bounded_until_words
 
 FINEST = 10 ** 18
 UNITS = 10 ** 12
 
-# Inputs over the label a that are of a form that isn't read, or of none.
-OTHER_FORMS = [
-    b"", b"a", b"tt", b"!a", b"a && a", b"(a)", b"quit", b"P{>=0.5}[X tt]", b"P{>=0.5}[X !a]", b"P{>=0.5}[X (a)]", b"P{>=0.5}[tt U a]",
-    b"P{>=0.5}[a U[0,1] a]", b"P{>=0.5}[ff U[0,1] a]", b"P{>=0.5}[tt U[0,1] tt]", b"P{>=0.5}[tt U[1,2] a]", b"P{>=0.5}[tt U[0.0,1] a]",
-    b"P{>=0.5}[tt U[00,1] a]", b"P{>=0.5}[tt U[0,~] a]", b"P{>=0.5}[tt U[0,~][0,1] a]", b"P{>=0.5}[tt U[0,1][0,1] a]",
-    b"P{>=0.5}[tt U[0,] a]", b"P{>=0.5}[tt U[,1] a]", b"P{>=0.5}[tt U[0,-1] a]", b"P{>=0.5}[tt U[0,1]a]", b"P{>=0.5}[ttU[0,1] a]",
-    b"P{>=0.5}[tt U [0,1] a]", b"P{>=0.5}[tt u[0,1] a]", b"P{=0.5}[X a]", b"P{==0.5}[X a]", b"P{=<0.5}[X a]", b"P{=>0.5}[X a]",
-    b"P{<<0.5}[X a]", b"P{<>0.5}[X a]", b"P{0.5}[X a]", b"P{>=}[X a]", b"P{<=+0.5}[X a]", b"P{>=-0}[X a]", b"P{>=.}[X a]", b"P{>=0.5}[Xa]",
-    b"P{>=0.5}[X ]", b"P{>=0.5}[]", b"P{>=0.5}", b"P{>=0.5}[X a", b"P{>=0.5}X a]", b"P>=0.5[X a]", b"S{>=0.5}[X a]", b"p{>=0.5}[X a]",
-    b"P{>=0.5}[x a]", b"P{>=0.5}(X a)", b"P{>=0.5}[X a]P{>=0.5}[X a]", b"P{>=0.5}[X a]\nP{>=0.5}[X a]", b"\xef\xbb\xbfP{>=0.5}[X a]",
-]
-OTHER_ENDS = [b"\r\n", b"\n\n", b"\r", b" ", b" \n", b"\n ", b"\t\n", b"\x00", b"\nquit\n", b"]\n"]
-OTHER_LABELS = [b"", b"tt", b"ff", b"P", b"S", b"X", b"U", b"quit", b"undeclared", b"0", b"\xc3\xa9", b"a b", b"a-"]
-
-
 def draw_next(draws, chain, labels):
-    label = draws.one_of(labels.names)
-    probability = next_probability(draws.one_of(chain.rows), labels.marked[label])
+    """A next operator, mostly with its threshold at a probability that is a decimal, or beside one."""
+    found = next_probabilities(chain, labels)
+    between = [(label, probability) for label, probability in found if 0 < probability < 1]
+    decimals = [(label, probability) for label, probability in between if FINEST % probability.denominator == 0]
+    label, probability = draws.one_of(draws.mostly(decimals, found) or between or found)
     units = draws.mostly(beside(draws, probability), any_units(draws))
     return Next(draw_comparison(draws), threshold_of(units), label)
+
+
+def next_probabilities(chain, labels):
+    """For each label and each state the probability that the next state has the label."""
+    return [(label, next_probability(row, labels.marked[label])) for label in labels.names for row in chain.rows]
 
 
 def draw_until(draws, chain, labels, greatest_load):
@@ -46,6 +39,16 @@ def draw_goal(draws, chain, labels):
     """Mostly a label that can be reached from elsewhere."""
     reached = [name for name in labels.names if is_entered(chain, labels.marked[name])]
     return draws.one_of(draws.mostly(reached, labels.names) or labels.names)
+
+
+def has_choice(chain, labels):
+    """Whether some next operator's probability is neither 0 nor 1."""
+    return any(0 < probability < 1 for _, probability in next_probabilities(chain, labels))
+
+
+def has_way(chain, labels):
+    """Whether some label is reached from a state that doesn't have it."""
+    return any(is_entered(chain, goal) for goal in labels.marked.values())
 
 
 def is_entered(chain, goal):
@@ -98,7 +101,9 @@ def draw_time(draws, chain, greatest_load):
     if draws.chance(1, 16):
         return Decimal(0, 0)
     rate = Fraction(greatest_exit_rate(chain), 10 ** chain.scale)
-    load = Fraction(draws.between(1, 2 * greatest_load), 2) if draws.chance(7, 8) else Fraction(1, 10 ** draws.between(1, 18))
+    # Below 2^-50 a load is 0 in its own units, and beside 10^-18 the time has few digits left.
+    small = Fraction(1, 10 ** draws.one_of([draws.between(1, 15), draws.between(16, 20)]))
+    load = Fraction(draws.between(1, 2 * greatest_load), 2) if draws.chance(7, 8) else small
     if rate == 0:
         return decimal_of_units(draws.between(1, 10 ** 6), draws.below(7))
     return time_at_most(draws, load / rate)
@@ -123,58 +128,3 @@ def spelled_formula(draws, formula):
     if isinstance(formula, Until):
         path = b"tt U[0,%s] %s" % (spelled(draws, formula.time), formula.label)
     return b"P{%s%s}[%s]" % (formula.comparison, threshold, path)
-
-
-def long_input(draws, formula, size):
-    """A formula in so many bytes, by zeros at the end of its threshold."""
-    threshold = canonical_text(formula.threshold) + (b"." if formula.threshold.x == 0 else b"")
-    front = b"P{%s%s" % (formula.comparison, threshold)
-    back = b"}[X %s]" % formula.label + draws.one_of([b"", b"\n"])
-    return front + b"0" * (size - len(front) - len(back)) + back
-
-
-def longest_input(draws, formula):
-    return long_input(draws, formula, FORMULA_LIMIT)
-
-
-def too_long_input(draws, formula):
-    return long_input(draws, formula, FORMULA_LIMIT + draws.mostly(1, 2, 100_000))
-
-
-# Inputs of other forms. Each takes draws and a formula over the model at hand.
-
-def other_form(form):
-    return lambda draws, formula: form.replace(b"a", formula.label) + draws.one_of([b"", b"\n"])
-
-
-def other_end(end):
-    return lambda draws, formula: spelled_formula(draws, formula) + end
-
-
-def other_label(label):
-    return lambda draws, formula: written(draws, formula._replace(label=label))
-
-
-def near_label(draws, formula):
-    return written(draws, formula._replace(label=draws.one_of([formula.label + b"0", formula.label[:-1], formula.label.swapcase()])))
-
-
-def other_blank(draws, formula):
-    """A blank or a line end too many, anywhere; what comes out may still be right."""
-    text = written(draws, formula)
-    place = draws.below(len(text) + 1)
-    return text[:place] + draws.one_of([b" ", b"\t", b"\n", b"\r"]) + text[place:]
-
-
-def high_threshold(draws, formula):
-    above = [Decimal(2, 0), Decimal(10 ** 18 - 1, 0), Decimal(10 ** 17 + 1, 17), decimal_of_units(draws.between(101, 999), 2)]
-    return written(draws, formula._replace(threshold=draws.one_of(above)))
-
-
-def faulty_number(draws, formula):
-    """The threshold or the time is no number, or beyond the limits."""
-    word = draws.one_of([no_number, too_fine, too_big])(draws)
-    threshold = formula.comparison + canonical_text(formula.threshold)
-    if isinstance(formula, Until) and draws.chance(1, 2):
-        return formula_text(formula).replace(b"[0," + canonical_text(formula.time), b"[0," + word)
-    return formula_text(formula).replace(threshold, formula.comparison + word)

@@ -37,7 +37,7 @@ def draw_transitions(draws, states, full=False):
     pairs = draws.shuffled(draw_pairs(draws, states))
     if full and not pairs:
         pairs = [(1, 1)]
-    if draws.chance(1, 4):
+    if draws.chance(1, 3):
         return with_round_sums(draws, pairs)
     draw_rate = draws.one_of([whole_rate, decimal_rate, small_rate, mixed_rate, mixed_rate, fine_rate, draws.mostly(fine_rate, no_rate)])
     return [(source, target, draw_rate(draws)) for source, target in pairs]
