@@ -1,8 +1,7 @@
 -- A file has one reading: it stands for one value or has one fault.
 use Rattle.std.proofs.Common.{◌≡◌, ℕ, ◌<◌, ◌≤◌, List, length, Some, IsSomeAnd, inl, inr, sym, ◌∙◌, subst, arith}
 use Rattle.outside.specs.Shelf.{Pair, IsFile, IsTooBig, file_limit}
-use Rattle.text_lines.specs.LinesOf.{end_line_of}
-use Rattle.text_lines.specs.WordLines.{word_lines_of}
+use Rattle.text_lines.proofs.FileReadings as reading
 use Rattle.text_lines.specs.declared.fault.FileWhat.{FileWhat}
 use Rattle.lab_reader.specs.LabFault.{LabFaultAt}
 use Rattle.lab_reader.specs.LabText.{LabSays}
@@ -23,23 +22,23 @@ pub record HasOneReading {A : Type 0} (Says : List ℕ → A → Type 0) (FaultA
 
 pub tra_reading : HasOneReading TraSays TraFaultAt
 tra_reading = record {
-  one = λ text a b p q. tra.one_tra (word_lines_of text) a b p q;
-  fault = λ text k l v w p q. tra.one_fault (word_lines_of text) (end_line_of text) k l v w p q;
-  not_both = λ text a k v p q. tra.no_fault (word_lines_of text) (end_line_of text) k a v p q;
+  one = λ text. reading.one_value (TraSays text) (TraFaultAt text) (tra.tra_reading text);
+  fault = λ text. reading.one_fault (TraSays text) (TraFaultAt text) (tra.tra_reading text);
+  not_both = λ text. reading.not_both (TraSays text) (TraFaultAt text) (tra.tra_reading text);
 }
 
 pub lab_reading : (n : ℕ) → HasOneReading (λ text a. LabSays text n a) (λ text. LabFaultAt text n)
 lab_reading n = record {
-  one = λ text a b p q. lab.one_lab n (word_lines_of text) a b p q;
-  fault = λ text k l v w p q. lab.one_fault n (word_lines_of text) (end_line_of text) k l v w p q;
-  not_both = λ text a k v p q. lab.no_fault n (word_lines_of text) (end_line_of text) a k v p q;
+  one = λ text. reading.one_value (LabSays text n) (LabFaultAt text n) (lab.lab_reading text n);
+  fault = λ text. reading.one_fault (LabSays text n) (LabFaultAt text n) (lab.lab_reading text n);
+  not_both = λ text. reading.not_both (LabSays text n) (LabFaultAt text n) (lab.lab_reading text n);
 }
 
 pub rew_reading : (n : ℕ) → HasOneReading (λ text a. RewSays text n a) (λ text. RewFaultAt text n)
 rew_reading n = record {
-  one = λ text a b p q. rew.one_rew n (word_lines_of text) a b p q;
-  fault = λ text k l v w p q. rew.one_fault n (word_lines_of text) k l v w p q;
-  not_both = λ text a k v p q. rew.no_fault n (word_lines_of text) k a v p q;
+  one = λ text. reading.one_value (RewSays text n) (RewFaultAt text n) (rew.rew_reading text n);
+  fault = λ text. reading.one_fault (RewSays text n) (RewFaultAt text n) (rew.rew_reading text n);
+  not_both = λ text. reading.not_both (RewSays text n) (RewFaultAt text n) (rew.rew_reading text n);
 }
 
 some_same : (a b : List ℕ) → Some a ≡ Some b → a ≡ b
