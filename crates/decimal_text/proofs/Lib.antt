@@ -6,3 +6,5 @@ pub mod Grammar
 pub mod Values
 pub mod CanonicalTexts
 pub mod NumberOrNot
+pub mod DecimalCases
+pub mod Scales

@@ -8,8 +8,8 @@ use Rattle.text_lines.specs.declared.fault.FileWhat.TheVariants as what
 use Rattle.lab_reader.specs.Declarations.{Declares}
 use Rattle.lab_reader.specs.LabelLines.{IsSomeLabelLine}
 use Rattle.lab_reader.specs.LabText.{AreMarks, LinesSayLab}
-use Rattle.lab_reader.specs.LabFault.{LineFailsBy, HasFailingLine, LinesHaveFault}
-use Rattle.lab_reader.specs.Reading.{GivesMask, GivesMarks, BodyFails}
+use Rattle.lab_reader.specs.LabFault.{LineFailsBy, BodyFails, HasFailingLine, LinesHaveFault}
+use Rattle.lab_reader.specs.Reading.{GivesMask, GivesMarks}
 use Rattle.lab_reader.proofs.Marks.{marks_none, marks_with, marks_more}
 
 -- the lines of the body before those that are left are right, and they give these marks
@@ -49,33 +49,13 @@ pub body_said : (n : ℕ) (lines : List WordLine) (names : List (List ℕ)) (bod
 body_said n lines names body marks d g = record { body = body; declares = d; right = g.right; marks = g.are }
 
 line_fault_holds : (n : ℕ) (lines : List WordLine) (end number : ℕ) (w : FileWhat) → HasFailingLine n lines number w → LinesHaveFault n lines end number w
-line_fault_holds n lines end number what.Word h = h
-line_fault_holds n lines end number what.StateRange h = h
-line_fault_holds n lines end number what.Undeclared h = h
-line_fault_holds n lines end number what.Header h = absurd h.fails
-line_fault_holds n lines end number what.StatesRange h = absurd h.fails
-line_fault_holds n lines end number what.TransitionsRange h = absurd h.fails
-line_fault_holds n lines end number (what.Number fault) h = absurd h.fails
-line_fault_holds n lines end number what.Count h = absurd h.fails
-line_fault_holds n lines end number what.Repeated h = absurd h.fails
-line_fault_holds n lines end number what.RateRange h = absurd h.fails
-line_fault_holds n lines end number what.Name h = absurd h.fails
-line_fault_holds n lines end number what.RepeatedName h = absurd h.fails
-line_fault_holds n lines end number what.LabelsRange h = absurd h.fails
-line_fault_holds n lines end number what.RewardScale h = absurd h.fails
-line_fault_holds n lines end number what.TooBig h = absurd h.fails
-line_fault_holds n lines end number what.WatchState h = absurd h.fails
+line_fault_holds n lines end number what.Header h = absurd h.line.fails
+line_fault_holds n lines end number what.Name h = absurd h.line.fails
+line_fault_holds n lines end number what.RepeatedName h = absurd h.line.fails
+line_fault_holds n lines end number what.LabelsRange h = absurd h.line.fails
+line_fault_holds n lines end number other h = h
 
-pub body_faulty : (n : ℕ) (lines : List WordLine) (end : ℕ) (names : List (List ℕ)) (body : List WordLine) (number : ℕ) (w : FileWhat) → Declares lines names body → BodyFails n names body number w → LinesHaveFault n lines end number w
-body_faulty n lines end names body number w d h = line_fault_holds n lines end number w (record {
-  names = names;
-  body = body;
-  declares = d;
-  front = h.front;
-  line = h.line;
-  more = h.more;
-  split = h.split;
-  right = h.right;
-  fails = h.fails;
-  here = h.here;
-})
+pub body_faulty : (n : ℕ) (lines : List WordLine) (end : ℕ) (names : List (List ℕ)) (body : List WordLine) (number : ℕ) (w : FileWhat)
+    → Declares lines names body → BodyFails n names body number w → LinesHaveFault n lines end number w
+body_faulty n lines end names body number w d h =
+    line_fault_holds n lines end number w (record { names = names; body = body; declares = d; line = h })

@@ -6,8 +6,8 @@ use Rattle.std.proofs.lemmas.List.Quantifiers.{all_pairs_push}
 use Rattle.text_lines.specs.Name.{is_name}
 use Rattle.text_lines.specs.declared.fault.FileWhat.{FileWhat}
 use Rattle.lab_reader.specs.Declarations.{AreNames}
-use Rattle.lab_reader.specs.LabFault.{NameFailsBy}
-use Rattle.lab_reader.specs.Reading.{IsFreshName, HasFailingWord}
+use Rattle.lab_reader.specs.LabFault.{NameFailsBy, HasFailingWord}
+use Rattle.lab_reader.specs.Reading.{IsFreshName}
 
 -- no names are right
 pub names_none : AreNames []

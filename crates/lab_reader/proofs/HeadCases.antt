@@ -12,7 +12,7 @@ use Rattle.text_lines.specs.declared.fault.FileWhat.{FileWhat}
 use Rattle.text_lines.specs.declared.fault.FileWhat.TheVariants as what
 use Rattle.lab_reader.specs.Declarations.{IsOnly, IsClosing, AreNames, words_in, BeginsWithNames, Declares}
 use Rattle.lab_reader.specs.LabFault.{HasFailingName, LinesHaveFault}
-use Rattle.lab_reader.specs.Reading.{HasNames, HasFailingWord}
+use Rattle.lab_reader.specs.Reading.{HasNames}
 use Rattle.lab_reader.proofs.Heads.{opened, no_line, not_opened, names_line, names_closed, not_closed, failing_name}
 use Rattle.lab_reader.proofs.NameCases.{WordsCase, Declared, Stops, IsWordsCase, run_words, words_declared, words_stop, words_hold}
 
@@ -153,9 +153,8 @@ head_is lines end names body d =
 pub name_fails : (lines : List WordLine) (end number : ℕ) (w : FileWhat) → HasFailingName lines number w → head_case lines end ≡ NoHead number w
 name_fails lines end number w h =
     let names = words_in h.declarations in
-    let failing : HasFailingWord names h.line.words w = record { earlier = h.earlier; word = h.word; later = h.later; split = h.words; right = h.right; fails = h.fails } in
     after_names lines end h.declarations (h.line ∷ h.more) h.begins
-    ∙ run_breaks end names h.line h.more w (step_by names h.line (Stops w) h.not_closing (words_stop names h.line.words w failing))
+    ∙ run_breaks end names h.line h.more w (step_by names h.line (Stops w) h.not_closing (words_stop names h.line.words w h.word))
     ∙ ap (λ z. NoHead z w) (sym h.here)
 
 pub header_lacks : (n : ℕ) (lines : List WordLine) (end number : ℕ) → LinesHaveFault n lines end number what.Header → head_case lines end ≡ NoHead number what.Header

@@ -5,17 +5,10 @@ use Rattle.std.proofs.lemmas.List.Elements.{All-nil, All-push}
 use Rattle.text_lines.specs.WordLines.{WordLine}
 use Rattle.text_lines.specs.declared.fault.FileWhat.{FileWhat}
 use Rattle.text_lines.specs.declared.fault.FileWhat.TheVariants as what
-use Rattle.text_lines.specs.declared.fault.ReadFault.{ReadFault}
-use Rattle.text_lines.specs.declared.fault.ReadFault.TheVariants.{At, Memory}
 use Rattle.lab_reader.specs.Declarations.{IsOpening, IsClosing, AreNames, words_in, Declares}
-use Rattle.lab_reader.specs.LabFault.{HasFailingName, NameFailsBy, LinesHaveFault}
-use Rattle.lab_reader.specs.Reading.{IsFaultBy, HasNames, HasFailingWord}
+use Rattle.lab_reader.specs.LabFault.{HasFailingWord, HasFailingName, LinesHaveFault}
+use Rattle.lab_reader.specs.Reading.{HasNames}
 use Rattle.lab_reader.proofs.Declared.{names_none}
-
--- a fault that holds in one way holds in a weaker way
-pub fault_weaker : (Holds Follows : ℕ → FileWhat → Type 0) (fault : ReadFault) → ((number : ℕ) (w : FileWhat) → Holds number w → Follows number w) → IsFaultBy Holds fault → IsFaultBy Follows fault
-fault_weaker Holds Follows (At fault) weaker h = weaker fault.line fault.what h
-fault_weaker Holds Follows Memory weaker h = tt
 
 -- the opening line is there, and no name yet
 pub opened : (lines others : List WordLine) (opening : WordLine) → IsOpening opening → lines ≡ opening ∷ others → HasNames lines [] others
@@ -64,33 +57,17 @@ name_fault_holds : (n : ℕ) (lines : List WordLine) (end number : ℕ) (w : Fil
 name_fault_holds n lines end number what.Name h = h
 name_fault_holds n lines end number what.RepeatedName h = h
 name_fault_holds n lines end number what.LabelsRange h = h
-name_fault_holds n lines end number what.Header h = absurd h.fails
-name_fault_holds n lines end number what.StatesRange h = absurd h.fails
-name_fault_holds n lines end number what.TransitionsRange h = absurd h.fails
-name_fault_holds n lines end number what.Word h = absurd h.fails
-name_fault_holds n lines end number what.StateRange h = absurd h.fails
-name_fault_holds n lines end number (what.Number fault) h = absurd h.fails
-name_fault_holds n lines end number what.Count h = absurd h.fails
-name_fault_holds n lines end number what.Repeated h = absurd h.fails
-name_fault_holds n lines end number what.RateRange h = absurd h.fails
-name_fault_holds n lines end number what.Undeclared h = absurd h.fails
-name_fault_holds n lines end number what.RewardScale h = absurd h.fails
-name_fault_holds n lines end number what.TooBig h = absurd h.fails
-name_fault_holds n lines end number what.WatchState h = absurd h.fails
+name_fault_holds n lines end number other h = absurd h.word.fails
 
 -- a word of the next line can't be declared
-pub failing_name : (n : ℕ) (lines : List WordLine) (end : ℕ) (names : List (List ℕ)) (line : WordLine) (more : List WordLine) (w : FileWhat) → HasNames lines names (line ∷ more) → ¬ IsClosing line → HasFailingWord names line.words w → LinesHaveFault n lines end line.number w
+pub failing_name : (n : ℕ) (lines : List WordLine) (end : ℕ) (names : List (List ℕ)) (line : WordLine) (more : List WordLine) (w : FileWhat)
+    → HasNames lines names (line ∷ more) → ¬ IsClosing line → HasFailingWord names line.words w → LinesHaveFault n lines end line.number w
 failing_name n lines end names line more w h other f = name_fault_holds n lines end line.number w (record {
   declarations = h.declarations;
   line = line;
   more = more;
   begins = h.begins;
   not_closing = other;
-  earlier = f.earlier;
-  word = f.word;
-  later = f.later;
-  words = f.split;
-  right = subst (λ z. AreNames (z ++ f.earlier)) h.are f.right;
-  fails = subst (λ z. NameFailsBy (z ++ f.earlier) f.word w) h.are f.fails;
+  word = subst (λ z. HasFailingWord z line.words w) h.are f;
   here = refl;
 })

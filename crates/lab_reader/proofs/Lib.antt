@@ -7,4 +7,3 @@ pub mod NameCases
 pub mod HeadCases
 pub mod LineCases
 pub mod Readings
-pub mod Outcomes

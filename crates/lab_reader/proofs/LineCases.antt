@@ -1,12 +1,12 @@
 -- Each line gives a state labels, or fails by one check.
-use Rattle.std.proofs.Common.{◌≡◌, ℕ, zero, suc, ◌+◌, ◌*◌, ◌/◌, ◌^◌, ◌<◌, ◌==◌, ◌&&◌, ◌↔◌, inl, inr, IsTrue, Bool, true, false, cond, nat_lt, List, [], ◌∷◌, length, get_or, Decides, ap, refl, sym, subst, ◌∙◌, arith}
+use Rattle.std.proofs.Common.{◌≡◌, ℕ, zero, suc, ◌+◌, ◌*◌, ◌/◌, ◌^◌, ◌<◌, ◌==◌, ◌↔◌, inl, inr, IsTrue, Bool, true, false, cond, List, [], ◌∷◌, length, get_or, Decides, ap, refl, sym, subst, ◌∙◌, arith}
 use Rattle.std.specs.Int.{bit_at}
 use Rattle.std.specs.List.{All, Contains, list_all}
 use Rattle.std.proofs.Math.Nat.{pow-suc}
-use Rattle.std.proofs.lemmas.Bool.{lt-ltb, ltb-true, and_from, and_parts, both_ways, false_from_ne_true}
+use Rattle.std.proofs.lemmas.Bool.{both_ways, false_from_ne_true}
 use Rattle.std.proofs.lemmas.Bool.Decides.{Decides-by_and}
 use Rattle.std.proofs.lemmas.Nat.Bits.{bit_at-lt, bit_at-suc, bit_at_lowest, same_from_bits_below}
-use Rattle.model_core.specs.StateNumber.{IsState}
+use Rattle.model_core.proofs.StateNumbers.{is_state, state_decides}
 use Rattle.text_lines.specs.WholeNumber.{IsWhole, whole_value}
 use Rattle.text_lines.specs.WordLines.{WordLine}
 use Rattle.text_lines.specs.declared.fault.FileWhat.{FileWhat}
@@ -63,17 +63,6 @@ number_case_holds line = (some_number_case line).1
 
 number_case_is : (line : WordLine) (c : NumberCase) → IsNumberCase line c → number_case line ≡ c
 number_case_is line c h = number_case_unique line (number_case line) c (number_case_holds line) h
-
--- ---- the state
-
-abbrev is_state : ℕ → ℕ → Bool
-is_state n s = nat_lt 0 s && nat_lt s (suc n)
-
-state_decides : (n s : ℕ) → Decides (is_state n s) (IsState n s)
-state_decides n s = (
-  λ t. let h = and_parts (nat_lt 0 s) (nat_lt s (suc n)) t in (omega (arith, ltb-true 0 s h.0), omega (arith, ltb-true s (suc n) h.1)),
-  λ h. and_from (nat_lt 0 s) (nat_lt s (suc n)) (lt-ltb 0 s (omega (arith, h.0))) (lt-ltb s (suc n) (omega (arith, h.1))),
-)
 
 -- ---- the labels
 
@@ -175,19 +164,7 @@ line_case_is n names line (Wrong what.StateRange) h =
     with_tests n names line h.state h.others false (all_among names h.others) h.begins (false_from_ne_true (is_state n h.state) (λ t. h.outside ((state_decides n h.state).0 t))) refl
 line_case_is n names line (Wrong what.Undeclared) h =
     with_tests n names line h.state h.labels true false h.begins ((state_decides n h.state).1 h.is_state) (false_from_ne_true (all_among names h.labels) (λ t. h.undeclared ((labels_decide names h.labels).0 t)))
-line_case_is n names line (Wrong what.Header) h = absurd h
-line_case_is n names line (Wrong what.StatesRange) h = absurd h
-line_case_is n names line (Wrong what.TransitionsRange) h = absurd h
-line_case_is n names line (Wrong (what.Number fault)) h = absurd h
-line_case_is n names line (Wrong what.Count) h = absurd h
-line_case_is n names line (Wrong what.Repeated) h = absurd h
-line_case_is n names line (Wrong what.RateRange) h = absurd h
-line_case_is n names line (Wrong what.Name) h = absurd h
-line_case_is n names line (Wrong what.RepeatedName) h = absurd h
-line_case_is n names line (Wrong what.LabelsRange) h = absurd h
-line_case_is n names line (Wrong what.RewardScale) h = absurd h
-line_case_is n names line (Wrong what.TooBig) h = absurd h
-line_case_is n names line (Wrong what.WatchState) h = absurd h
+line_case_is n names line (Wrong other) h = absurd h
 
 tests_hold : (n : ℕ) (names : List (List ℕ)) (line : WordLine) (state : ℕ) (labels : List (List ℕ)) (a b : Bool) → BeginsWithNumber line state labels → is_state n state ≡ a → all_among names labels ≡ b → IsLineCase n names line (by_tests state (mask_of names labels) a b)
 tests_hold n names line state labels false b h e f =

@@ -8,12 +8,13 @@ use Rattle.std.proofs.lemmas.Bool.Decides.{Decides-by_or}
 use Rattle.std.proofs.lemmas.List.{get_or_append_left, get_or_default}
 use Rattle.std.proofs.lemmas.List.Elements.{Decides-contains}
 use Rattle.std.proofs.lemmas.Slice.Eq.{bytes_eq-Decides}
+use Rattle.model_core.specs.declared.limits.TheConstants.{MOST_LABELS}
 use Rattle.text_lines.specs.Name.{is_name}
 use Rattle.text_lines.specs.declared.fault.FileWhat.{FileWhat}
 use Rattle.text_lines.specs.declared.fault.FileWhat.TheVariants as what
-use Rattle.lab_reader.specs.Declarations.{AreNames, most_labels}
-use Rattle.lab_reader.specs.LabFault.{NameFailsBy}
-use Rattle.lab_reader.specs.Reading.{IsFreshName, HasFailingWord}
+use Rattle.lab_reader.specs.Declarations.{AreNames}
+use Rattle.lab_reader.specs.LabFault.{NameFailsBy, HasFailingWord}
+use Rattle.lab_reader.specs.Reading.{IsFreshName}
 use Rattle.lab_reader.proofs.Declared.{HasTaken, taken_none, taken_more, taken_all, taken_fails}
 
 -- ---- a word among words
@@ -45,7 +46,7 @@ by_tests true false true = Bad what.LabelsRange
 by_tests true false false = Fresh
 
 abbrev is_full : List (List ℕ) → Bool
-is_full names = length names == most_labels
+is_full names = length names == MOST_LABELS
 
 pub name_case : List (List ℕ) → List ℕ → NameCase
 name_case names word = by_tests (is_name word) (among names word) (is_full names)
@@ -61,36 +62,24 @@ among_none words word n = false_from_ne_true (among words word) (λ t. n ((among
 
 pub name_case_is : (names : List (List ℕ)) (word : List ℕ) (c : NameCase) → IsNameCase names word c → name_case names word ≡ c
 name_case_is names word Fresh h =
-    tests_are names word true false false h.is_name (among_none names word h.is_new) (ne_eqb (length names) most_labels h.room)
+    tests_are names word true false false h.is_name (among_none names word h.is_new) (ne_eqb (length names) MOST_LABELS h.room)
 name_case_is names word (Bad what.Name) h =
     tests_are names word false (among names word) (is_full names) (false_from_ne_true (is_name word) h) refl refl
 name_case_is names word (Bad what.RepeatedName) h =
     tests_are names word true true (is_full names) h.0 ((among_decides names word).1 h.1) refl
 name_case_is names word (Bad what.LabelsRange) h =
-    tests_are names word true false true h.0 (among_none names word h.1) (eq-eqb (length names) most_labels h.2)
-name_case_is names word (Bad what.Header) h = absurd h
-name_case_is names word (Bad what.StatesRange) h = absurd h
-name_case_is names word (Bad what.TransitionsRange) h = absurd h
-name_case_is names word (Bad what.Word) h = absurd h
-name_case_is names word (Bad what.StateRange) h = absurd h
-name_case_is names word (Bad (what.Number fault)) h = absurd h
-name_case_is names word (Bad what.Count) h = absurd h
-name_case_is names word (Bad what.Repeated) h = absurd h
-name_case_is names word (Bad what.RateRange) h = absurd h
-name_case_is names word (Bad what.Undeclared) h = absurd h
-name_case_is names word (Bad what.RewardScale) h = absurd h
-name_case_is names word (Bad what.TooBig) h = absurd h
-name_case_is names word (Bad what.WatchState) h = absurd h
+    tests_are names word true false true h.0 (among_none names word h.1) (eq-eqb (length names) MOST_LABELS h.2)
+name_case_is names word (Bad other) h = absurd h
 
 tests_hold : (names : List (List ℕ)) (word : List ℕ) (a b c : Bool) → is_name word ≡ a → among names word ≡ b → is_full names ≡ c → IsNameCase names word (by_tests a b c)
 tests_hold names word false b c e f g = both_ways (is_name word) e
 tests_hold names word true true c e f g = (e, (among_decides names word).0 f)
 tests_hold names word true false true e f g =
-    (e, λ h. both_ways (among names word) f ((among_decides names word).1 h), eqb-true (length names) most_labels g)
+    (e, λ h. both_ways (among names word) f ((among_decides names word).1 h), eqb-true (length names) MOST_LABELS g)
 tests_hold names word true false false e f g = record {
   is_name = e;
   is_new = λ h. both_ways (among names word) f ((among_decides names word).1 h);
-  room = eqb-false (length names) most_labels g;
+  room = eqb-false (length names) MOST_LABELS g;
 }
 
 pub name_case_holds : (names : List (List ℕ)) (word : List ℕ) → IsNameCase names word (name_case names word)

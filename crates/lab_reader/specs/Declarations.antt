@@ -1,6 +1,7 @@
 -- The declarations of a `.lab` file: the names that stand between the lines `#DECLARATION` and `#END`. Lines that are blank don't count here.
 use Rattle.std.specs.Prelude.{◌≡◌, ◌≢◌, ℕ, ◌≤◌, IsTrue, List, [], ◌∷◌, ◌++◌, length, All, AllPairs, codes}
 use Rattle.std.specs.List.{flat_map}
+use Rattle.model_core.specs.declared.limits.TheConstants.{MOST_LABELS}
 use Rattle.text_lines.specs.Name.{is_name}
 use Rattle.text_lines.specs.WordLines.{WordLine}
 
@@ -16,15 +17,11 @@ IsOpening line = IsOnly (codes "#DECLARATION") line
 abbrev pub IsClosing : WordLine → Type 0
 IsClosing line = IsOnly (codes "#END") line
 
--- the greatest number of labels
-abbrev pub most_labels : ℕ
-most_labels = 64
-
 -- words that can be declared: names, all different, and not too many
 pub record AreNames (names : List (List ℕ)) : Type 0 where
   pub each : All (λ word. IsTrue (is_name word)) names
   pub distinct : AllPairs ◌≢◌ names
-  pub few : length names ≤ most_labels
+  pub few : length names ≤ MOST_LABELS
 
 -- the words of the lines, one line after another
 abbrev pub words_in : List WordLine → List (List ℕ)

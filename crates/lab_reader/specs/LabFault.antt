@@ -1,12 +1,13 @@
 -- What is wrong with a `.lab` file over n states, and at which line: the first check that fails, line by line, and word by word.
 use Rattle.std.specs.Prelude.{◌≡◌, ℕ, ◌⊎◌, IsTrue, List, [], ◌∷◌, ◌++◌, length, All, Contains}
 use Rattle.model_core.specs.StateNumber.{IsState}
+use Rattle.model_core.specs.declared.limits.TheConstants.{MOST_LABELS}
 use Rattle.text_lines.specs.LinesOf.{end_line_of}
 use Rattle.text_lines.specs.Name.{is_name}
 use Rattle.text_lines.specs.WordLines.{WordLine, word_lines_of}
 use Rattle.text_lines.specs.declared.fault.FileWhat.{FileWhat}
 use Rattle.text_lines.specs.declared.fault.FileWhat.TheVariants as what
-use Rattle.lab_reader.specs.Declarations.{IsOpening, IsClosing, AreNames, words_in, most_labels, BeginsWithNames, Declares}
+use Rattle.lab_reader.specs.Declarations.{IsOpening, IsClosing, AreNames, words_in, BeginsWithNames, Declares}
 use Rattle.lab_reader.specs.LabelLines.{BeginsWithNumber, IsSomeLabelLine}
 
 -- the first line isn't the opening one
@@ -32,34 +33,26 @@ pub record LacksClosing (lines : List WordLine) (end number : ℕ) : Type 0 wher
 abbrev pub NameFailsBy : List (List ℕ) → List ℕ → FileWhat → Type 0
 NameFailsBy names word what.Name = ¬ IsTrue (is_name word)
 NameFailsBy names word what.RepeatedName = IsTrue (is_name word) × Contains names word
-NameFailsBy names word what.LabelsRange = IsTrue (is_name word) × (¬ Contains names word) × (length names ≡ most_labels)
-NameFailsBy names word what.Header = ⊥
-NameFailsBy names word what.StatesRange = ⊥
-NameFailsBy names word what.TransitionsRange = ⊥
-NameFailsBy names word what.Word = ⊥
-NameFailsBy names word what.StateRange = ⊥
-NameFailsBy names word (what.Number fault) = ⊥
-NameFailsBy names word what.Count = ⊥
-NameFailsBy names word what.Repeated = ⊥
-NameFailsBy names word what.RateRange = ⊥
-NameFailsBy names word what.Undeclared = ⊥
-NameFailsBy names word what.RewardScale = ⊥
-NameFailsBy names word what.TooBig = ⊥
-NameFailsBy names word what.WatchState = ⊥
+NameFailsBy names word what.LabelsRange = IsTrue (is_name word) × (¬ Contains names word) × (length names ≡ MOST_LABELS)
+NameFailsBy names word other = ⊥
 
--- a line of declarations has a word that fails so, after words that are right
+-- after these names, one of the words fails so, and those before it are right
+pub record HasFailingWord (names words : List (List ℕ)) (fault : FileWhat) : Type 0 where
+  pub earlier : List (List ℕ)
+  pub word : List ℕ
+  pub later : List (List ℕ)
+  pub split : words ≡ earlier ++ word ∷ later
+  pub right : AreNames (names ++ earlier)
+  pub fails : NameFailsBy (names ++ earlier) word fault
+
+-- a line of declarations has a word that fails so
 pub record HasFailingName (lines : List WordLine) (number : ℕ) (fault : FileWhat) : Type 0 where
   pub declarations : List WordLine
   pub line : WordLine
   pub more : List WordLine
   pub begins : BeginsWithNames lines declarations (line ∷ more)
   pub not_closing : ¬ IsClosing line
-  pub earlier : List (List ℕ)
-  pub word : List ℕ
-  pub later : List (List ℕ)
-  pub words : line.words ≡ earlier ++ word ∷ later
-  pub right : AreNames (words_in declarations ++ earlier)
-  pub fails : NameFailsBy (words_in declarations ++ earlier) word fault
+  pub word : HasFailingWord (words_in declarations) line.words fault
   pub here : number ≡ line.number
 
 -- the line's number is no state
@@ -82,25 +75,10 @@ abbrev pub LineFailsBy : ℕ → List (List ℕ) → WordLine → FileWhat → T
 LineFailsBy n names line what.Word = (number : ℕ) (others : List (List ℕ)) → ¬ BeginsWithNumber line number others
 LineFailsBy n names line what.StateRange = HasNoState n line
 LineFailsBy n names line what.Undeclared = HasUndeclared n names line
-LineFailsBy n names line what.Header = ⊥
-LineFailsBy n names line what.StatesRange = ⊥
-LineFailsBy n names line what.TransitionsRange = ⊥
-LineFailsBy n names line (what.Number fault) = ⊥
-LineFailsBy n names line what.Count = ⊥
-LineFailsBy n names line what.Repeated = ⊥
-LineFailsBy n names line what.RateRange = ⊥
-LineFailsBy n names line what.Name = ⊥
-LineFailsBy n names line what.RepeatedName = ⊥
-LineFailsBy n names line what.LabelsRange = ⊥
-LineFailsBy n names line what.RewardScale = ⊥
-LineFailsBy n names line what.TooBig = ⊥
-LineFailsBy n names line what.WatchState = ⊥
+LineFailsBy n names line other = ⊥
 
--- a line of the body fails so, after lines that are right
-pub record HasFailingLine (n : ℕ) (lines : List WordLine) (number : ℕ) (fault : FileWhat) : Type 0 where
-  pub names : List (List ℕ)
-  pub body : List WordLine
-  pub declares : Declares lines names body
+-- a line of the body, which has this number, fails so, after lines that are right
+pub record BodyFails (n : ℕ) (names : List (List ℕ)) (body : List WordLine) (number : ℕ) (fault : FileWhat) : Type 0 where
   pub front : List WordLine
   pub line : WordLine
   pub more : List WordLine
@@ -109,24 +87,20 @@ pub record HasFailingLine (n : ℕ) (lines : List WordLine) (number : ℕ) (faul
   pub fails : LineFailsBy n names line fault
   pub here : number ≡ line.number
 
+-- the declarations are right, and the body fails so
+pub record HasFailingLine (n : ℕ) (lines : List WordLine) (number : ℕ) (fault : FileWhat) : Type 0 where
+  pub names : List (List ℕ)
+  pub body : List WordLine
+  pub declares : Declares lines names body
+  pub line : BodyFails n names body number fault
+
 -- the lines of a text have this fault at the line of this number
 abbrev pub LinesHaveFault : ℕ → List WordLine → ℕ → ℕ → FileWhat → Type 0
 LinesHaveFault n lines end number what.Header = HasNoLine lines end number ⊎ (LacksOpening lines number ⊎ LacksClosing lines end number)
 LinesHaveFault n lines end number what.Name = HasFailingName lines number what.Name
 LinesHaveFault n lines end number what.RepeatedName = HasFailingName lines number what.RepeatedName
 LinesHaveFault n lines end number what.LabelsRange = HasFailingName lines number what.LabelsRange
-LinesHaveFault n lines end number what.Word = HasFailingLine n lines number what.Word
-LinesHaveFault n lines end number what.StateRange = HasFailingLine n lines number what.StateRange
-LinesHaveFault n lines end number what.Undeclared = HasFailingLine n lines number what.Undeclared
-LinesHaveFault n lines end number what.StatesRange = ⊥
-LinesHaveFault n lines end number what.TransitionsRange = ⊥
-LinesHaveFault n lines end number (what.Number fault) = ⊥
-LinesHaveFault n lines end number what.Count = ⊥
-LinesHaveFault n lines end number what.Repeated = ⊥
-LinesHaveFault n lines end number what.RateRange = ⊥
-LinesHaveFault n lines end number what.RewardScale = ⊥
-LinesHaveFault n lines end number what.TooBig = ⊥
-LinesHaveFault n lines end number what.WatchState = ⊥
+LinesHaveFault n lines end number other = HasFailingLine n lines number other
 
 -- the text of a `.lab` file over n states has this fault at the line of this number, and none before
 abbrev pub LabFaultAt : List ℕ → ℕ → ℕ → FileWhat → Type 0

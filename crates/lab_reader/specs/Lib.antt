@@ -1,6 +1,6 @@
 pub mod Declarations
 pub mod LabelLines
-pub mod LabFault
 pub mod LabText
-pub mod Laws
+pub mod LabFault
+-- what the reader's own functions say
 pub mod Reading

@@ -1,21 +1,13 @@
--- What the steps of the reader say.
-use Rattle.std.specs.Prelude.{◌≡◌, ◌≢◌, ℕ, ◌<◌, ◌^◌, ◌==◌, ◌↔◌, IsTrue, List, [], ◌∷◌, ◌++◌, length, map, All, Contains, slice_index_or}
+-- What the reader's own functions say.
+use Rattle.std.specs.Prelude.{◌≡◌, ◌≢◌, ℕ, ◌<◌, ◌^◌, ◌==◌, ◌↔◌, IsTrue, List, [], length, map, All, Contains, slice_index_or}
 use Rattle.std.specs.Int.{bit_at}
+use Rattle.model_core.specs.declared.limits.TheConstants.{MOST_LABELS}
 use Rattle.text_lines.specs.Name.{is_name}
 use Rattle.text_lines.specs.WordLines.{WordLine}
 use Rattle.text_lines.specs.Words.{WordText}
-use Rattle.text_lines.specs.declared.fault.FileWhat.{FileWhat}
-use Rattle.text_lines.specs.declared.fault.ReadFault.{ReadFault}
-use Rattle.text_lines.specs.declared.fault.ReadFault.TheVariants.{At, Memory}
-use Rattle.lab_reader.specs.Declarations.{AreNames, words_in, most_labels, BeginsWithNames}
+use Rattle.lab_reader.specs.Declarations.{words_in, BeginsWithNames}
 use Rattle.lab_reader.specs.LabelLines.{IsLabelLine, IsSomeLabelLine}
-use Rattle.lab_reader.specs.LabFault.{NameFailsBy, LineFailsBy}
 use Rattle.lab_reader.specs.LabText.{AreMarks}
-
--- a fault that is told holds so; of want of memory nothing is said
-abbrev pub IsFaultBy : (ℕ → FileWhat → Type 0) → ReadFault → Type 0
-IsFaultBy Holds (At fault) = Holds fault.line fault.what
-IsFaultBy Holds Memory = Unit {0}
 
 -- the words without their columns
 abbrev pub bytes_of : List WordText → List (List ℕ)
@@ -25,22 +17,13 @@ bytes_of words = map (λ w. w.bytes) words
 pub record IsFreshName (names : List (List ℕ)) (word : List ℕ) : Type 0 where
   pub is_name : IsTrue (is_name word)
   pub is_new : ¬ Contains names word
-  pub room : length names ≢ most_labels
+  pub room : length names ≢ MOST_LABELS
 
 -- the file begins with the opening line and declarations of these names, and then come the others
 pub record HasNames (lines : List WordLine) (names : List (List ℕ)) (others : List WordLine) : Type 0 where
   pub declarations : List WordLine
   pub begins : BeginsWithNames lines declarations others
   pub are : names ≡ words_in declarations
-
--- after these names, one of the words fails so, and those before it are right
-pub record HasFailingWord (names words : List (List ℕ)) (fault : FileWhat) : Type 0 where
-  pub earlier : List (List ℕ)
-  pub word : List ℕ
-  pub later : List (List ℕ)
-  pub split : words ≡ earlier ++ word ∷ later
-  pub right : AreNames (names ++ earlier)
-  pub fails : NameFailsBy (names ++ earlier) word fault
 
 -- bit j of the mask is 1 exactly where name j is among the labels, and no further bit is 1
 pub record IsMaskOf (names labels : List (List ℕ)) (mask : ℕ) : Type 0 where
@@ -57,13 +40,3 @@ pub record GivesMask (n : ℕ) (names : List (List ℕ)) (line : WordLine) (stat
 pub record GivesMarks (n : ℕ) (names : List (List ℕ)) (body : List WordLine) (marks : List ℕ) : Type 0 where
   pub right : All (IsSomeLabelLine n names) body
   pub are : AreMarks n names body marks
-
--- a line of the body, which has this number, fails so, after lines that are right
-pub record BodyFails (n : ℕ) (names : List (List ℕ)) (body : List WordLine) (number : ℕ) (fault : FileWhat) : Type 0 where
-  pub front : List WordLine
-  pub line : WordLine
-  pub more : List WordLine
-  pub split : body ≡ front ++ line ∷ more
-  pub right : All (IsSomeLabelLine n names) front
-  pub fails : LineFailsBy n names line fault
-  pub here : number ≡ line.number

@@ -4,3 +4,4 @@ pub mod Rows
 pub mod Order
 pub mod ModelLemmas
 pub mod RateSearch
+pub mod StateNumbers

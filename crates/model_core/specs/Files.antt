@@ -1,5 +1,6 @@
 -- What the three files of a model hold, as plain lists.
 use Rattle.std.specs.Prelude.{ℕ, ◌^◌, ◌<◌, ◌≤◌, List, length, All, AllPairs, ◌≢◌}
+use Rattle.model_core.specs.declared.limits.TheConstants.{MOST_STATES, MOST_LABELS, AMOUNT_LIMIT}
 use Rattle.model_core.specs.declared.rate.Rate.{Rate}
 use Rattle.model_core.specs.Transitions.{exit_sum, IsEachPairOnce}
 
@@ -29,19 +30,19 @@ pub record IsTransition (n : ℕ) (r : Rate) : Type 0 where
 -- below 2^63
 pub record IsTra (tra : TraLists) : Type 0 where
   pub some_state : 1 ≤ tra.n
-  pub few_states : tra.n ≤ 65536
+  pub few_states : tra.n ≤ MOST_STATES
   pub decimals : tra.scale ≤ 18
   pub transitions : All (IsTransition tra.n) tra.rates
   pub once : IsEachPairOnce tra.rates
-  pub exits : (s : ℕ) → exit_sum tra.rates s < 2 ^ 63
+  pub exits : (s : ℕ) → exit_sum tra.rates s < AMOUNT_LIMIT
 
 -- at most 64 names, all different, and no mark of a label that has no name
 pub record IsLab (lab : LabLists) : Type 0 where
-  pub few_names : length lab.names ≤ 64
+  pub few_names : length lab.names ≤ MOST_LABELS
   pub distinct : AllPairs ◌≢◌ lab.names
   pub declared : All (λ marks. marks < 2 ^ length lab.names) lab.marks
 
 -- rewards of at most 18 decimals, each below 2^63
 pub record IsRew (rew : RewLists) : Type 0 where
   pub decimals : rew.scale ≤ 18
-  pub within : All (λ reward. reward < 2 ^ 63) rew.rewards
+  pub within : All (λ reward. reward < AMOUNT_LIMIT) rew.rewards

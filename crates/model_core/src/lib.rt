@@ -3,6 +3,7 @@
 
 mod lab;
 mod laws;
+mod limits;
 mod model;
 mod rate;
 mod rew;
@@ -12,6 +13,7 @@ mod tra;
 
 pub use lab::Lab;
 pub use laws::{exit_rate_is_exit_sum, order_makes_no_other_chain, rate_into_is_row_sum};
+pub use limits::{AMOUNT_LIMIT, MOST_LABELS, MOST_STATES, MOST_TRANSITIONS};
 pub use model::Model;
 pub use rate::Rate;
 pub use rew::Rew;

@@ -1,124 +1,78 @@
 -- What the entries of a file say of its rewards.
-use Rattle.std.proofs.Common.{◌≡◌, ◌≢◌, ℕ, zero, suc, ◌+◌, ◌^◌, ◌<◌, ◌≤◌, List, [], ◌∷◌, ◌++◌, length, map, take, drop, drop-cons, get_or, inl, inr, sym, ap, subst, ◌∙◌, arith}
-use Rattle.std.specs.List.{All, AllPairs, AllZip, range_with_len}
-use Rattle.std.proofs.lemmas.Bool.{cases_eq}
-use Rattle.std.proofs.lemmas.List.{map-append, length-map, length-take-le, get_or-map, take-append-drop}
+use Rattle.std.proofs.Common.{◌≡◌, ℕ, ◌<◌, ◌≤◌, List, map, take, get_or, sym, subst, ◌∙◌, arith}
+use Rattle.std.specs.List.{All, range_with_len}
 use Rattle.std.proofs.lemmas.List.Elements.{All-map}
-use Rattle.std.proofs.lemmas.List.Sums.{sum_by-cons}
+use Rattle.std.proofs.lemmas.List.Quantifiers.{Any-push}
+use Rattle.decimal_text.specs.Scale.{greatest_decimals, scaled}
 use Rattle.model_core.specs.Files.{IsRew}
+use Rattle.model_core.specs.StateNumber.{state_number}
+use Rattle.model_core.specs.declared.limits.TheConstants.{AMOUNT_LIMIT}
+use Rattle.text_lines.proofs.EntryReads.{same_scale, small_scale, are_entries, line_past, zip_right}
+use Rattle.text_lines.proofs.EntryScales.{map-more}
+use Rattle.text_lines.specs.Entries.{scale_of}
+use Rattle.text_lines.specs.EntryFault.{HasLinePast}
+use Rattle.text_lines.specs.EntryLines.{value_of, entry_of, entries_of, IsEntryLine, AreRead, IsFirstPast}
 use Rattle.text_lines.specs.WordLines.{WordLine}
-use Rattle.rew_reader.specs.RewardLines.{Entry, IsEntry, AreEntries}
-use Rattle.rew_reader.specs.RewText.{greatest_decimals, scaled, reward_of, LinesSayRew}
-use Rattle.rew_reader.specs.RewFault.{HasRewardOutOfRange}
-use Rattle.rew_reader.specs.Reading.{entry_of, entries_of, AreRead, IsWithinScale, IsInRange, IsFirstPast}
-use Rattle.rew_reader.specs.declared.entry.EntryLine.{EntryLine}
-use Rattle.rew_reader.proofs.EntryLists.{IsNew}
-use Rattle.rew_reader.proofs.RewardLemmas.{pick, pick-here, pick-elsewhere, reward_of-new}
+use Rattle.text_lines.specs.declared.entry_line.EntryLine.{EntryLine}
+use Rattle.rew_reader.specs.Reading.{IsInRange, IsFirstLarge}
+use Rattle.rew_reader.specs.RewardLines.{reward_lines}
+use Rattle.rew_reader.specs.RewText.{AreWithin, HasTooLarge, reward_of, LinesSayRew}
+use Rattle.rew_reader.proofs.RewardSums.{reward_of-below}
 
--- ---- the scale
+-- the states of the entries are below n, from 0
+pub states_below : (n : ℕ) (lines : List WordLine) (es : List (EntryLine ℕ)) → AreRead (reward_lines n) state_number lines es → All (λ e. e.key < n) es
+states_below n lines es h =
+    zip_right (IsEntryLine (reward_lines n) state_number) (λ e. e.key < n) (λ line e is. omega (arith, is.is.key.in_range.1)) lines es h.each
 
--- it has at most 18 decimals
-pub few-decimals : (n : ℕ) (rows : List WordLine) (es : List Entry) → AllZip (IsEntry n) rows es → greatest_decimals es ≤ 18
-unfolding greatest_decimals
-few-decimals n [] [] h = omega arith
-few-decimals n [] (e ∷ es) h = absurd h
-few-decimals n (r ∷ rs) [] h = absurd h
-few-decimals n (r ∷ rs) (e ∷ es) h = omega (arith, h.0.reward.short.decimals, few-decimals n rs es h.1)
+module _ (n scale : ℕ) (lines : List WordLine) (es : List (EntryLine ℕ)) (rewards : List ℕ) where
+  -- the rewards of entries that were read, at their scale
+  pub record AreRewardsOf : Type 0 where
+    pub read : AreRead (reward_lines n) state_number lines es
+    pub scale_is : scale ≡ greatest_decimals (map value_of es)
+    pub within : All (IsInRange scale) es
+    pub are : rewards ≡ map (reward_of scale (entries_of state_number es)) (range_with_len 0 n)
 
--- no reward has more decimals than it
-pub within-scale : (es : List EntryLine) → All (IsWithinScale (greatest_decimals (entries_of es))) es
-unfolding greatest_decimals
-within-scale [] k d l = absurd (omega arith)
-within-scale (e ∷ es) zero d l = omega arith
-within-scale (e ∷ es) (suc k) d l = omega (arith, within-scale es k d (omega (arith, l)))
+  all_within : AreRewardsOf → AreWithin scale (entries_of state_number es)
+  all_within h = All-map (λ e. scaled scale e.value < AMOUNT_LIMIT) (entry_of state_number) es h.within
 
--- ---- the states
+  own_scale : AreRewardsOf → scale ≡ scale_of (entries_of state_number es)
+  own_scale h = h.scale_is ∙ same_scale (reward_lines n) state_number es
 
--- they are below n, from 0
-pub states-below : (n : ℕ) (rows : List WordLine) (es : List EntryLine) → AllZip (IsEntry n) rows (entries_of es) → All (λ e. e.state < n) es
-states-below n rows [] h k d l = absurd (omega arith)
-states-below n [] (e ∷ es) h k d l = absurd h
-states-below n (r ∷ rs) (e ∷ es) h zero d l = omega (arith, h.0.state.is_state.1)
-states-below n (r ∷ rs) (e ∷ es) h (suc k) d l = states-below n rs es h.1 k d (omega (arith, l))
+  -- they are rewards
+  pub is_rew : AreRewardsOf → IsRew (record { scale = scale; rewards = rewards })
+  is_rew h = record {
+    decimals = omega (arith, h.scale_is, small_scale (reward_lines n) state_number lines es h.read);
+    within = subst (All (λ r. r < AMOUNT_LIMIT)) (sym h.are)
+        (All-map (λ r. r < AMOUNT_LIMIT) (reward_of scale (entries_of state_number es)) (range_with_len 0 n)
+        (λ k d l. reward_of-below scale (entries_of state_number es) (get_or (range_with_len 0 n) k d) h.read.once (all_within h)));
+  }
 
--- and each is of one entry
-pub states-once : (es : List EntryLine) → AllPairs (λ e f. e.state ≢ f.state) (entries_of es) → AllPairs (λ e f. e.state ≢ f.state) es
-states-once es once i j d l k same =
-    let first = get_or-map entry_of es i d (entry_of d) (omega (arith, l, k)) in
-    let second = get_or-map entry_of es j d (entry_of d) k in
-    once i j (entry_of d) l (omega (arith, k, length-map es entry_of)) (omega (arith, same, ap (λ (e : Entry). e.state) first, ap (λ (e : Entry). e.state) second))
+  -- and the lines stand for them
+  pub says_rew : AreRewardsOf → LinesSayRew n lines (record { scale = scale; rewards = rewards })
+  says_rew h = record {
+    entries = entries_of state_number es;
+    are = are_entries (reward_lines n) state_number lines es h.read;
+    scale = own_scale h;
+    within = all_within h;
+    rewards = h.are;
+  }
 
--- ---- the rewards
+-- how the code writes the element past a list's end
+abbrev pub no_entry : EntryLine ℕ
+no_entry = record { line = 0; digits = 0; decimals = 0; key = 0 }
 
--- the reward of a state is that of its entry, or 0
-reward_of-below : (scale : ℕ) (es : List Entry) (s : ℕ) → AllPairs (λ e f. e.state ≢ f.state) es → All (λ e. scaled scale e < 2 ^ 63) es → reward_of scale es s < 2 ^ 63
-reward_of-below scale [] s once h = omega arith
-reward_of-below scale (e ∷ es) s once h =
-    let rest = reward_of-below scale es s (λ i j d l k. once (suc i) (suc j) d (omega (arith, l)) (omega (arith, k))) (λ k d l. h (suc k) d (omega (arith, l))) in
-    elim (cases_eq e.state (s + 1)) [
-      | inl same ↦
-          let new : IsNew es (s + 1) = λ k d l is. once 0 (suc k) d (omega arith) (omega (arith, l)) (same ∙ sym is) in
-          omega (arith, sum_by-cons (pick scale s) e es, pick-here scale s e same, reward_of-new scale es s new, h 0 e (omega arith))
-      | inr other ↦ omega (arith, sum_by-cons (pick scale s) e es, pick-elsewhere scale s e other, rest)
-    ]
-
--- so they are rewards
-pub is-rew : (n scale : ℕ) (rows : List WordLine) (es : List EntryLine) (rewards : List ℕ) → AreEntries n rows (entries_of es) → scale ≡ greatest_decimals (entries_of es) → All (IsInRange scale) es → rewards ≡ map (reward_of scale (entries_of es)) (range_with_len 0 n) → IsRew (record { scale = scale; rewards = rewards })
-is-rew n scale rows es rewards are is within list = record {
-  decimals = omega (arith, is, few-decimals n rows (entries_of es) are.each);
-  within = subst (All (λ r. r < 2 ^ 63)) (sym list)
-      (All-map (λ r. r < 2 ^ 63) (reward_of scale (entries_of es)) (range_with_len 0 n)
-      (λ k d l. reward_of-below scale (entries_of es) (get_or (range_with_len 0 n) k d) are.once (All-map (λ e. scaled scale e < 2 ^ 63) entry_of es within)));
+-- the first entry whose reward is too large is the first that goes past the limit
+pub first_past : (scale place : ℕ) (es : List (EntryLine ℕ)) → IsFirstLarge scale es place → IsFirstPast state_number (AreWithin scale) (HasTooLarge scale) es place
+first_past scale place es h = record {
+  there = h.there;
+  within = All-map (λ e. scaled scale e.value < AMOUNT_LIMIT) (entry_of state_number) (take place es) h.before;
+  past = subst (HasTooLarge scale) (sym (map-more (entry_of state_number) es place no_entry h.there))
+      (Any-push (λ e. AMOUNT_LIMIT ≤ scaled scale e.value) (entries_of state_number (take place es)) (entry_of state_number (get_or es place no_entry)) (h.large no_entry));
 }
 
--- and the lines stand for them
-pub says-rew : (n scale : ℕ) (rows : List WordLine) (es : List EntryLine) (rewards : List ℕ) → AreEntries n rows (entries_of es) → scale ≡ greatest_decimals (entries_of es) → All (IsInRange scale) es → rewards ≡ map (reward_of scale (entries_of es)) (range_with_len 0 n) → LinesSayRew n rows (record { scale = scale; rewards = rewards })
-says-rew n scale rows es rewards are is within list = record {
-  entries = entries_of es;
-  are = are;
-  scale = is;
-  within = All-map (λ e. scaled scale e < 2 ^ 63) entry_of es within;
-  rewards = list;
-}
-
--- ---- a reward that is too large
-
--- a list before a place, at it and after it
-split-at : {X : Type 0} (xs : List X) (k : ℕ) (d : X) → k < length xs → xs ≡ take k xs ++ get_or xs k d ∷ drop (suc k) xs
-split-at xs k d l = sym (take-append-drop k xs) ∙ ap (λ z. take k xs ++ z) (drop-cons xs k d l)
-
--- the line of the first entry whose reward is too large
-pub out-of-range : (n scale place : ℕ) (rows : List WordLine) (es : List EntryLine) (e : EntryLine) → AreRead n rows es → scale ≡ greatest_decimals (entries_of es) → IsFirstPast scale es place → e ≡ get_or es place e → HasRewardOutOfRange n rows e.line
-out-of-range n scale place rows es e h is first here =
-    let within = first.within in
-    let long : length rows ≡ length es = omega (arith, length-map rows number_of, length-map es line_of, ap length h.here) in
-    let there : place < length rows = omega (arith, first.within, long) in
-    let before = entries_of (take place es) in
-    let after = entries_of (drop (suc place) es) in
-    let row : WordLine = get_or rows place no_row in
-    let found = get_or es place e in
-    let split : entries_of es ≡ before ++ entry_of found ∷ after = ap (map entry_of) (split-at es place e within) ∙ map-append entry_of (take place es) (found ∷ drop (suc place) es) in
-    let known : scale ≡ greatest_decimals (before ++ entry_of found ∷ after) = is ∙ ap greatest_decimals split in
-    record {
-      earlier = take place rows;
-      line = row;
-      later = drop (suc place) rows;
-      split = split-at rows place no_row there;
-      before = before;
-      entry = entry_of found;
-      after = after;
-      are = subst (AreEntries n rows) split h.are;
-      place = length-take-le place rows (omega (arith, there)) ∙ sym (length-map (take place es) entry_of ∙ length-take-le place es (omega (arith, within)));
-      within = subst (λ z. All (λ e. scaled z e < 2 ^ 63) before) known (All-map (λ e. scaled scale e < 2 ^ 63) entry_of (take place es) first.before);
-      past = subst (λ z. 2 ^ 63 ≤ scaled z (entry_of found)) known (first.past e);
-      here = ap line_of here ∙ (sym (get_or-map line_of es place e 0 within) ∙ (ap (λ z. get_or z place 0) (sym h.here) ∙ get_or-map number_of rows place no_row 0 there));
-    }
-  where
-    number_of : WordLine → ℕ
-    number_of row = row.number
-
-    line_of : EntryLine → ℕ
-    line_of e = e.line
-
-    no_row : WordLine
-    no_row = record { number = 0; words = [] }
+-- so it is on the line that does
+pub line_large : (n scale place : ℕ) (lines : List WordLine) (es : List (EntryLine ℕ)) (d : EntryLine ℕ) → AreRead (reward_lines n) state_number lines es
+    → scale ≡ greatest_decimals (map value_of es) → IsFirstLarge scale es place → HasLinePast (reward_lines n) AreWithin HasTooLarge lines (get_or es place d).line
+line_large n scale place lines es d read is h =
+    line_past (reward_lines n) state_number AreWithin HasTooLarge lines es place d read
+    (subst (λ z. IsFirstPast state_number (AreWithin z) (HasTooLarge z) es place) (is ∙ same_scale (reward_lines n) state_number es) (first_past scale place es h))

@@ -1,10 +1,6 @@
-pub mod EntryLemmas
-pub mod EntryLists
-pub mod ReadLemmas
-pub mod RewardLemmas
+pub mod RewardKinds
+pub mod RewardLimits
+pub mod RewardSums
+pub mod MarkLemmas
 pub mod FileLemmas
-pub mod EntryCases
-pub mod LineCases
-pub mod ScaleCases
 pub mod Readings
-pub mod ResultLemmas

@@ -1,5 +1,4 @@
-pub mod Laws
-pub mod Reading
-pub mod RewFault
-pub mod RewText
 pub mod RewardLines
+pub mod RewText
+pub mod RewFault
+pub mod Reading

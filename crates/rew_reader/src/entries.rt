@@ -1,17 +1,25 @@
 // The lines of rewards.
-ghost use Rattle.std.specs.Prelude.{◌≡◌, [], ◌∷◌, ◌++◌, IfOk};
+ghost use Rattle.std.specs.Prelude.{[], ◌≡◌, ◌∷◌, ◌++◌, IfOk, IfErr};
+ghost use Rattle.model_core.specs.StateNumber.{state_number};
+ghost use Rattle.text_lines.specs.EntryLines.{AreRead};
+ghost use Rattle.text_lines.specs.Told.{IsToldBy};
 ghost use Rattle.text_lines.specs.WordLines.{word_lines_of};
-ghost use Rattle.rew_reader.specs.Reading.{AreRead, IsFaultOf};
+ghost use Rattle.rew_reader.specs.RewardLines.{reward_lines};
+ghost use Rattle.rew_reader.specs.RewFault.{LinesHaveFault};
 
-use crate::entry::{EntryLine, read_entry};
+use crate::entry::read_entry;
 use std::alloc::{AllocError, Global};
-use text_lines::{FileFault, FileWhat, ReadFault, lines, next_filled};
+use text_lines::{EntryLine, FileWhat, ReadFault, lines, next_filled};
 
 // The rewards of the lines, in their order, each of another state; or the first thing that is wrong with a line, the
 // scale aside.
-pub(crate) fn read_entries(alloc: Global, bytes: &[u8], n: u32) -> Result<Vec<EntryLine>, ReadFault>
-    ensures read { IfOk result (λ entries. AreRead n (word_lines_of bytes.now) entries.items) }
-    ensures fault { (at : FileFault) → result ≡ Err (ReadFault.At at) → IsFaultOf n (word_lines_of bytes.now) at }
+pub(crate) fn read_entries(
+    alloc: Global,
+    bytes: &[u8],
+    n: u32,
+) -> Result<Vec<EntryLine<u32>>, ReadFault>
+    ensures read { IfOk result (λ entries. AreRead (reward_lines n) state_number (word_lines_of bytes.now) entries.items) }
+    ensures fault { IfErr result (IsToldBy (LinesHaveFault n (word_lines_of bytes.now))) }
 {
     let mut rest = lines(bytes);
     let mut entries = Vec::new(alloc);
@@ -19,11 +27,11 @@ pub(crate) fn read_entries(alloc: Global, bytes: &[u8], n: u32) -> Result<Vec<En
     while let Some(line) = next_filled(&mut rest) {
         let entry = match read_entry(line, n) {
             Ok(entry) => entry,
-            Err(what) => return Err(at_line(line.number, what)),
+            Err(what) => return Err(ReadFault::at(line.number, what)),
         };
-        let state = entry.state as usize;
+        let state = entry.key as usize;
         if has_entry[state] {
-            return Err(at_line(line.number, FileWhat::Repeated));
+            return Err(ReadFault::at(line.number, FileWhat::Repeated));
         }
         has_entry[state] = true;
         push(&mut entries, entry)?;
@@ -32,16 +40,9 @@ pub(crate) fn read_entries(alloc: Global, bytes: &[u8], n: u32) -> Result<Vec<En
 }
 
 // The entries, and then this one.
-fn push(entries: &mut Vec<EntryLine>, entry: EntryLine) -> Result<(), AllocError>
+fn push(entries: &mut Vec<EntryLine<u32>>, entry: EntryLine<u32>) -> Result<(), AllocError>
     ensures { IfOk result (λ _. entries.new.items ≡ entries.old.items ++ entry ∷ []) }
 {
     entries.push(entry)?;
     Ok(())
-}
-
-// The fault at the line of this number.
-pub(crate) fn at_line(line: u64, what: FileWhat) -> ReadFault
-    ensures { result ≡ ReadFault.At (record { line = line; what = what }) }
-{
-    ReadFault::At(FileFault { line, what })
 }

@@ -1,19 +1,13 @@
 // The line of a state's reward.
 ghost use Rattle.std.specs.Prelude.{◌+◌, IfOk, IfErr};
-ghost use Rattle.rew_reader.specs.RewardLines.{HasState};
-ghost use Rattle.rew_reader.specs.Reading.{IsEntryLine, FailsAnyway};
+ghost use Rattle.model_core.specs.StateNumber.{state_number};
+ghost use Rattle.text_lines.specs.Entries.{HasKey};
+ghost use Rattle.text_lines.specs.EntryLines.{IsEntryLine, FailsAnyway};
 ghost use Rattle.text_lines.specs.Items.{row_of_line};
+ghost use Rattle.rew_reader.specs.RewardLines.{reward_lines};
 
-use decimal_text::{Decimal, read};
-use text_lines::{FileWhat, Line, two_words, whole};
-
-// A state's reward, with the number of the line that writes it. The state is numbered from 0.
-#[derive(Clone, Copy)]
-pub(crate) struct EntryLine {
-    pub(crate) line: u64,
-    pub(crate) state: u32,
-    pub(crate) reward: Decimal,
-}
+use decimal_text::read;
+use text_lines::{EntryLine, FileWhat, Line, two_words, whole};
 
 // The state of a line, numbered from 0, and the word of its reward.
 #[derive(Clone, Copy)]
@@ -22,17 +16,19 @@ struct StateWord<'a> {
     reward: &'a [u8],
 }
 
-// The reward that the line writes for one of n states, or what is wrong with the line, whatever lines stand before it.
-pub(crate) fn read_entry(line: Line<'_>, n: u32) -> Result<EntryLine, FileWhat>
-    ensures entry { IfOk result (λ e. IsEntryLine n (row_of_line line.entry) e) }
-    ensures fault { IfErr result (λ what. FailsAnyway n (row_of_line line.entry) what) }
+// The reward that the line writes for one of n states, which is kept by its number from 0; or what is wrong with the
+// line, whatever lines stand before it.
+pub(crate) fn read_entry(line: Line<'_>, n: u32) -> Result<EntryLine<u32>, FileWhat>
+    ensures entry { IfOk result (IsEntryLine (reward_lines n) state_number (row_of_line line.entry)) }
+    ensures fault { IfErr result (FailsAnyway (reward_lines n) (row_of_line line.entry)) }
 {
     let word = read_state(line, n)?;
     match read(word.reward) {
         Ok(reward) => Ok(EntryLine {
             line: line.number,
-            state: word.state,
-            reward,
+            digits: reward.c,
+            decimals: reward.x,
+            key: word.state,
         }),
         Err(fault) => Err(FileWhat::Number(fault)),
     }
@@ -40,8 +36,8 @@ pub(crate) fn read_entry(line: Line<'_>, n: u32) -> Result<EntryLine, FileWhat>
 
 // The state of a line of two words, and the second word; or what is wrong with them.
 fn read_state<'a>(line: Line<'a>, n: u32) -> Result<StateWord<'a>, FileWhat>
-    ensures state { IfOk result (λ s. HasState n (row_of_line line.entry) (s.state + 1) s.reward.now) }
-    ensures fault { IfErr result (λ what. FailsAnyway n (row_of_line line.entry) what) }
+    ensures state { IfOk result (λ s. HasKey (reward_lines n) (row_of_line line.entry) (state_number s.state) s.reward.now) }
+    ensures fault { IfErr result (FailsAnyway (reward_lines n) (row_of_line line.entry)) }
 {
     let Some((number, reward)) = two_words(line.bytes) else {
         return Err(FileWhat::Word);

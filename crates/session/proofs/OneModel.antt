@@ -14,14 +14,17 @@ use Rattle.session.specs.Outcome.{TakesTra, TakesLab, TakesRew, TakesModel, IsTr
 use Rattle.session.specs.declared.status.ModelFault.{ModelFault}
 use Rattle.session.specs.declared.status.Which.{Which}
 use Rattle.session.specs.declared.status.Which.TheVariants.{TraFile, LabFile, RewFile}
+use Rattle.lab_reader.proofs.Readings.{lab_reading}
+use Rattle.rew_reader.proofs.Readings.{rew_reading}
+use Rattle.tra_reader.proofs.Readings.{tra_reading}
 use Rattle.session.proofs.OneFile as file
 
 module _ (pairs : List Pair) where
   one_tra : (name : List ℕ) (a b : TraLists) → TakesTra name (Some pairs) a → TakesTra name (Some pairs) b → a ≡ b
-  one_tra name a b p q = file.one_value pairs name TraSays TraFaultAt file.tra_reading a b p q
+  one_tra name a b p q = file.one_value pairs name TraSays TraFaultAt tra_reading a b p q
 
   one_lab : (n : ℕ) (name : List ℕ) (a b : LabLists) → TakesLab n name (Some pairs) a → TakesLab n name (Some pairs) b → a ≡ b
-  one_lab n name a b p q = file.one_value pairs name (λ text a. LabSays text n a) (λ text. LabFaultAt text n) (file.lab_reading n) a b p q
+  one_lab n name a b p q = file.one_value pairs name (λ text a. LabSays text n a) (λ text. LabFaultAt text n) (λ text. lab_reading text n) a b p q
 
   one_rew : (n : ℕ) (name : Option (List ℕ)) (a b : Option RewLists) → TakesRew n name (Some pairs) a → TakesRew n name (Some pairs) b → a ≡ b
   one_rew n None None None p q = refl
@@ -30,28 +33,28 @@ module _ (pairs : List Pair) where
   one_rew n (Some name) None b p q = absurd p
   one_rew n (Some name) (Some a) None p q = absurd q
   one_rew n (Some name) (Some a) (Some b) p q =
-      ap Some (file.one_value pairs name (λ text a. RewSays text n a) (λ text. RewFaultAt text n) (file.rew_reading n) a b p q)
+      ap Some (file.one_value pairs name (λ text a. RewSays text n a) (λ text. RewFaultAt text n) (λ text. rew_reading text n) a b p q)
 
   no_tra_fault : (name : List ℕ) (a : TraLists) (line : ℕ) (what : FileWhat) → TakesTra name (Some pairs) a → IsTraFaulty name (Some pairs) line what → ⊥
-  no_tra_fault name a line what p q = file.no_fault pairs name TraSays TraFaultAt file.tra_reading a line what p q
+  no_tra_fault name a line what p q = file.no_fault pairs name TraSays TraFaultAt tra_reading a line what p q
 
   no_lab_fault : (n : ℕ) (name : List ℕ) (a : LabLists) (line : ℕ) (what : FileWhat) → TakesLab n name (Some pairs) a
       → IsLabFaulty n name (Some pairs) line what → ⊥
   no_lab_fault n name a line what p q =
-      file.no_fault pairs name (λ text a. LabSays text n a) (λ text. LabFaultAt text n) (file.lab_reading n) a line what p q
+      file.no_fault pairs name (λ text a. LabSays text n a) (λ text. LabFaultAt text n) (λ text. lab_reading text n) a line what p q
 
   no_rew_fault : (n : ℕ) (name : Option (List ℕ)) (a : Option RewLists) (line : ℕ) (what : FileWhat) → TakesRew n name (Some pairs) a
       → IsRewFaulty n name (Some pairs) line what → ⊥
   no_rew_fault n None a line what p q = q
   no_rew_fault n (Some name) None line what p q = p
   no_rew_fault n (Some name) (Some a) line what p q =
-      file.no_fault pairs name (λ text a. RewSays text n a) (λ text. RewFaultAt text n) (file.rew_reading n) a line what p q
+      file.no_fault pairs name (λ text a. RewSays text n a) (λ text. RewFaultAt text n) (λ text. rew_reading text n) a line what p q
 
   one_rew_fault : (n : ℕ) (name : Option (List ℕ)) (k l : ℕ) (v w : FileWhat) → IsRewFaulty n name (Some pairs) k v → IsRewFaulty n name (Some pairs) l w
       → (k ≡ l) × (v ≡ w)
   one_rew_fault n None k l v w p q = absurd p
   one_rew_fault n (Some name) k l v w p q =
-      file.one_fault pairs name (λ text a. RewSays text n a) (λ text. RewFaultAt text n) (file.rew_reading n) k l v w p q
+      file.one_fault pairs name (λ text a. RewSays text n a) (λ text. RewFaultAt text n) (λ text. rew_reading text n) k l v w p q
 
   -- both readings of the files are the same
   pub record SameModel (names : FileNames) (a b : TakesModel names (Some pairs)) : Type 0 where
@@ -87,7 +90,7 @@ module _ (pairs : List Pair) where
     one_fault_at : (f g : Which) (k l : ℕ) (v w : FileWhat) → IsFaultyAt names (Some pairs) f k v → IsFaultyAt names (Some pairs) g l w
         → (f ≡ g) × (k ≡ l) × (v ≡ w)
     one_fault_at TraFile TraFile k l v w p q =
-        let same = file.one_fault pairs names.tra TraSays TraFaultAt file.tra_reading k l v w p q in
+        let same = file.one_fault pairs names.tra TraSays TraFaultAt tra_reading k l v w p q in
         (refl, same.0, same.1)
     one_fault_at TraFile LabFile k l v w p q = absurd (no_tra_fault names.tra q.tra k v q.takes_tra p)
     one_fault_at TraFile RewFile k l v w p q = absurd (no_tra_fault names.tra q.tra k v q.takes_tra p)

@@ -7,10 +7,11 @@ use Rattle.std.specs.Char.{digit_value}
 use Rattle.std.specs.Int.{IsInRange}
 use Rattle.std.specs.Str.Parse.{AllDigits}
 use Rattle.decimal_text.specs.DecimalNumber.{DecimalNumber}
+use Rattle.decimal_text.specs.DecimalWord.{IsDecimalWord}
 use Rattle.decimal_text.specs.NumberValue.{StandsFor}
 use Rattle.decimal_text.specs.Spelling.{decimals_of, decimals_text, mantissa_text, Sign, NoSign, Plus, Minus, sign_text, ExponentSpelling, exponent_text, IsExponent, Spelling, spelling_text, IsSpelling}
 use Rattle.decimal_text.proofs.Values.{one_value}
-use Rattle.session.specs.PlainFormula.{IsDecimalWord, IsThresholdWord, IsWordBefore}
+use Rattle.session.specs.PlainFormula.{IsThresholdWord, IsWordBefore}
 
 -- a sign, a point, a digit, `E` or `e`
 abbrev pub IsNumberByte : ℕ → Type 0

@@ -6,9 +6,10 @@ use Rattle.std.proofs.lemmas.List.Elements.{All-cons, All-nil}
 use Rattle.std.proofs.lemmas.Slice.Eq.{bytes_eq-Decides}
 use Rattle.std.specs.Prelude.{bytes_eq}
 use Rattle.decimal_text.specs.DecimalNumber.{DecimalNumber}
-use Rattle.text_lines.proofs.DecimalCases.{WordCase, Writes, Lacks, IsWordCase, some_word_case, word_case_unique}
+use Rattle.decimal_text.proofs.DecimalCases.{WordCase, Writes, Lacks, IsWordCase, some_word_case, word_case_unique}
 use Rattle.session.specs.Outcome.{name_at}
-use Rattle.session.specs.PlainFormula.{op_text, next_text, IsDecimalWord, IsThresholdWord, IsLine, IsPlainFormula, IsLongestOp, IsWordBefore, IsUntilEnd}
+use Rattle.decimal_text.specs.DecimalWord.{IsDecimalWord}
+use Rattle.session.specs.PlainFormula.{op_text, next_text, IsThresholdWord, IsLine, IsPlainFormula, IsLongestOp, IsWordBefore, IsUntilEnd}
 use Rattle.session.specs.declared.plain_formula.Op.{Op}
 use Rattle.session.specs.declared.plain_formula.Op.TheVariants.{Less, AtMost, More, AtLeast}
 use Rattle.session.specs.declared.plain_formula.PlainFormula.{PlainFormula}
@@ -83,10 +84,10 @@ module _ (ending : ℕ) (text : List ℕ) (past : 69 < ending) (other : ending �
   number_in : (s : Split ending text) (w : WordCase) → IsWordCase s.front w
       → NumberBefore IsDecimalWord ending text ⊎ (¬ NumberBefore IsDecimalWord ending text)
   number_in s (Writes d) h =
-      inl (record { number = d; rest = s.rest; is = record { word = s.front; is_word = record { stands = h.stands; short = h.short }; split = s.split } })
+      inl (record { number = d; rest = s.rest; is = record { word = s.front; is_word = h; split = s.split } })
   number_in s (Lacks fault) h = inr (λ n.
       let is = (word_before ending text s.front s.rest n.rest n.number past other s.split s.free n.is).0 in
-      let same : Lacks fault ≡ Writes n.number = word_case_unique s.front (Lacks fault) (Writes n.number) h (record { stands = is.stands; short = is.short }) in
+      let same : Lacks fault ≡ Writes n.number = word_case_unique s.front (Lacks fault) (Writes n.number) h is in
       cc)
 
   number_or_not : NumberBefore IsDecimalWord ending text ⊎ (¬ NumberBefore IsDecimalWord ending text)

@@ -21,6 +21,9 @@ use Rattle.session.specs.declared.status.ModelFault.{ModelFault}
 use Rattle.session.specs.declared.status.Part.TheVariants.{Formula}
 use Rattle.session.specs.declared.status.Which.{Which}
 use Rattle.session.specs.declared.status.Which.TheVariants as which
+use Rattle.lab_reader.proofs.Readings.{lab_reading}
+use Rattle.rew_reader.proofs.Readings.{rew_reading}
+use Rattle.tra_reader.proofs.Readings.{tra_reading}
 use Rattle.session.proofs.OneFile as file
 use Rattle.session.proofs.SomeFormula.{NamedBelow, named_or_not}
 
@@ -115,7 +118,7 @@ module _ (pairs : List Pair) (left : List ℕ) (names : FileNames) where
         })
     rewards (Some name) e there =
         let bytes = bytes_of (file_named name pairs) there in
-        elim (file.file_reading pairs name (λ text a. RewSays text tra.n a) (λ text. RewFaultAt text tra.n) (file.rew_reading tra.n) bytes.0 bytes.1) [
+        elim (file.file_reading pairs name (λ text a. RewSays text tra.n a) (λ text. RewFaultAt text tra.n) (λ text. rew_reading text tra.n) bytes.0 bytes.1) [
           | inl r ↦ formulas (record {
             tra = tra;
             lab = lab;
@@ -139,7 +142,7 @@ module _ (pairs : List Pair) (left : List ℕ) (names : FileNames) where
   labels : (tra : TraLists) → TakesTra names.tra (Some pairs) tra → AreThere names pairs → Found
   labels tra takes there =
       let bytes = bytes_of (file_named names.lab pairs) there.lab in
-      elim (file.file_reading pairs names.lab (λ text a. LabSays text tra.n a) (λ text. LabFaultAt text tra.n) (file.lab_reading tra.n) bytes.0 bytes.1) [
+      elim (file.file_reading pairs names.lab (λ text a. LabSays text tra.n a) (λ text. LabFaultAt text tra.n) (λ text. lab_reading text tra.n) bytes.0 bytes.1) [
         | inl l ↦ rewards tra takes l.0 l.1 names.rew refl there.rew
         | inr f ↦ faulty (record { file = which.LabFile; line = f.0; what = f.1 }) (record { tra = tra; takes_tra = takes; faulty = f.2 }, refl)
       ]
@@ -147,7 +150,7 @@ module _ (pairs : List Pair) (left : List ℕ) (names : FileNames) where
   chain : AreThere names pairs → Found
   chain there =
       let bytes = bytes_of (file_named names.tra pairs) there.tra in
-      elim (file.file_reading pairs names.tra TraSays TraFaultAt file.tra_reading bytes.0 bytes.1) [
+      elim (file.file_reading pairs names.tra TraSays TraFaultAt tra_reading bytes.0 bytes.1) [
         | inl t ↦ labels t.0 t.1 there
         | inr f ↦ faulty (record { file = which.TraFile; line = f.0; what = f.1 }) (f.2, refl)
       ]

@@ -2,8 +2,8 @@
 use Rattle.std.specs.Prelude.{◌≡◌, ℕ, ◌≤◌, ◌^◌, ◌⊎◌, Option, MatchOption, List, [], ◌∷◌, ◌++◌, length, codes}
 use Rattle.ctmc_semantics.specs.Threshold
 use Rattle.ctmc_semantics.specs.Threshold.{Comparison}
-use Rattle.decimal_text.specs.DecimalNumber.{DecimalNumber, IsShortDecimal}
-use Rattle.decimal_text.specs.NumberValue.{StandsFor}
+use Rattle.decimal_text.specs.DecimalNumber.{DecimalNumber}
+use Rattle.decimal_text.specs.DecimalWord.{IsDecimalWord}
 use Rattle.decimal_text.specs.Text.{canonical_text}
 use Rattle.session.specs.declared.plain_formula.Op.{Op}
 use Rattle.session.specs.declared.plain_formula.Op.TheVariants.{Less, AtMost, More, AtLeast}
@@ -41,11 +41,6 @@ probability_text op threshold path = codes "P{" ++ op_text op ++ threshold ++ co
 abbrev pub formula_text : List ℕ → PlainFormula → List ℕ
 formula_text name (Next op threshold) = probability_text op (canonical_text threshold) (next_text name)
 formula_text name (Until op threshold time) = probability_text op (canonical_text threshold) (until_text name (canonical_text time))
-
--- the word is a number's, and the number is a decimal
-pub record IsDecimalWord (word : List ℕ) (d : DecimalNumber) : Type 0 where
-  pub stands : StandsFor word d
-  pub short : IsShortDecimal d
 
 -- the word is a decimal's, which is at most 1
 pub record IsThresholdWord (word : List ℕ) (d : DecimalNumber) : Type 0 where

@@ -2,9 +2,10 @@
 ghost use Rattle.std.specs.Prelude.{◌≡◌, ◌≢◌, ℕ, ◌<◌, ◌≤◌, ◌^◌, List, ◌∷◌, ◌++◌, length, codes, IsTrue, ◌↔◌, IfOk, OnOk, MatchOption};
 ghost use Rattle.decimal_text.specs.Text.{canonical_text};
 ghost use Rattle.decimal_text.specs.DecimalNumber.{DecimalNumber};
+ghost use Rattle.decimal_text.specs.DecimalWord.{IsDecimalWord};
 ghost use Rattle.session.specs.PlainFormula.{IsReading};
 ghost use Rattle.session.specs.Reading.{IsNamedReading};
-ghost use Rattle.session.specs.PlainFormula.{op_text, next_text, formula_text, IsDecimalWord, IsThresholdWord, IsLine, IsPlainFormula, IsLongestOp, IsNumberTaken, IsUntilEnd};
+ghost use Rattle.session.specs.PlainFormula.{op_text, next_text, formula_text, IsThresholdWord, IsLine, IsPlainFormula, IsLongestOp, IsNumberTaken, IsUntilEnd};
 
 use crate::plain_text::{LINE_END, take_literal, take_until};
 use decimal_text::{Decimal, print, read};

@@ -2,4 +2,11 @@ pub mod NameTests
 pub mod LineLemmas
 pub mod WordLemmas
 pub mod WordLineLemmas
-pub mod DecimalCases
+pub mod EntryScales
+pub mod EntryCases
+pub mod EntryRuns
+pub mod PastCases
+pub mod FileReadings
+pub mod EntryReads
+pub mod WholeNumbers
+pub mod Telling

@@ -1,4 +1,6 @@
 // What can be wrong with a file.
+ghost use Rattle.std.specs.Prelude.{◌≡◌};
+
 use decimal_text::NumberFault;
 use std::alloc::AllocError;
 
@@ -53,6 +55,15 @@ pub struct FileFault {
 pub enum ReadFault {
     At(FileFault),
     Memory,
+}
+
+impl ReadFault {
+    /// The fault at the line of this number.
+    pub fn at(line: u64, what: FileWhat) -> ReadFault
+        ensures { result ≡ ReadFault.At (record { line = line; what = what }) }
+    {
+        ReadFault::At(FileFault { line, what })
+    }
 }
 
 impl From<AllocError> for ReadFault {

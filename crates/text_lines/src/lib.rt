@@ -1,7 +1,8 @@
-//! The lines of a text, the words of a line, whole numbers and names, and what can be wrong with a
-//! file that is made of them.
+//! The lines of a text, the words of a line, whole numbers and names, the entries that lines write,
+//! and what can be wrong with a file that is made of them.
 #![tactic(auto)]
 
+mod entry_line;
 mod fault;
 mod filled;
 mod laws;
@@ -12,6 +13,7 @@ mod tests;
 mod whole_number;
 mod word;
 
+pub use entry_line::{EntryLine, scale_of, value_at};
 pub use fault::{FileFault, FileWhat, ReadFault};
 pub use filled::{next_filled, two_words};
 pub use laws::{

@@ -1,174 +1,122 @@
--- The lines of transitions, one after another: each is right, or one is the first that is wrong.
-use Rattle.std.proofs.Common.{◌≡◌, ℕ, zero, suc, ◌+◌, ◌<◌, inl, inr, List, [], ◌∷◌, ◌++◌, length, ap, refl, sym, subst, ◌∙◌, append_assoc, append-nil, length-append, arith}
-use Rattle.std.specs.List.{AllPairs, AllZip}
-use Rattle.std.proofs.lemmas.List.{get_or_append_left}
-use Rattle.std.proofs.Math.Seq.{get_or-append_seam}
-use Rattle.std.proofs.lemmas.List.Quantifiers.{all_pairs_push}
+-- How many lines of transitions there are, and those of them that the head says.
+use Rattle.std.proofs.Common.{◌≡◌, ℕ, zero, suc, ◌-◌, ◌<◌, Option, Some, None, List, [], ◌∷◌, ◌++◌, length, take, drop, ap, refl, sym, subst, ◌∙◌, append_assoc, length-append, arith}
+use Rattle.std.proofs.lemmas.List.{take-append-drop, length-take}
+use Rattle.text_lines.specs.EntryFault.{HasFailingLine}
+use Rattle.text_lines.specs.Entries.{Kind}
 use Rattle.text_lines.specs.WordLines.{WordLine}
 use Rattle.text_lines.specs.declared.fault.FileWhat.{FileWhat}
-use Rattle.text_lines.specs.declared.fault.FileWhat.TheVariants as what
-use Rattle.tra_reader.specs.Entries.{Entry, IsEntry, IsSamePair, AreEntries}
-use Rattle.tra_reader.specs.Head.{HasHead}
-use Rattle.tra_reader.specs.TraFault.{HasFront, HasFailingLine, LinesHaveFault}
-use Rattle.tra_reader.proofs.EntryCases.{IsNew, LineCase, IsLineCase, Good, Bad, line_case, line_case_is, line_case_holds}
 
--- no two of the entries are between the same states
-abbrev pub IsEachNew : List Entry → Type 0
-IsEachNew entries = AllPairs (λ e f. ¬ IsSamePair e f) entries
+-- ---- how many lines there are
 
--- what a body is
-pub data BodyCase : Type 0 where
-  Writes : List Entry → BodyCase
-  Fails : ℕ → FileWhat → BodyCase
+-- where so many lines are due: the end line where there are fewer, and the number of the first one more
+unfoldable pub miscount : ℕ → ℕ → List WordLine → Option ℕ
+miscount end zero [] = None
+miscount end zero (line ∷ lines) = Some line.number
+miscount end (suc due) [] = Some end
+miscount end (suc due) (line ∷ lines) = miscount end due lines
 
--- after these entries, as many lines are due
-unfoldable pub run : ℕ → ℕ → List Entry → ℕ → List WordLine → BodyCase
-run n end entries zero [] = Writes entries
-run n end entries (suc due) [] = Fails end what.Count
-run n end entries zero (line ∷ lines) = Fails line.number what.Count
-run n end entries (suc due) (line ∷ lines) =
-    elim (line_case n entries line) [
-      | Good e ↦ run n end (entries ++ e ∷ []) due lines
-      | Bad w ↦ Fails line.number w
-    ]
+-- after lines that are due comes this one
+pub record IsOneMore (due : ℕ) (lines : List WordLine) (number : ℕ) : Type 0 where
+  pub front : List WordLine
+  pub line : WordLine
+  pub more : List WordLine
+  pub split : lines ≡ front ++ line ∷ more
+  pub full : length front ≡ due
+  pub here : number ≡ line.number
 
--- a line that is right
-pub run-good : (n end : ℕ) (entries : List Entry) (due : ℕ) (line : WordLine) (lines : List WordLine) (e : Entry) → line_case n entries line ≡ Good e → run n end entries (suc due) (line ∷ lines) ≡ run n end (entries ++ e ∷ []) due lines
-unfolding run
-run-good n end entries due line lines e h = rw (h, run) refl
+pub data CountCase (end due : ℕ) (lines : List WordLine) (c : Option ℕ) : Type 0 where
+  Exact : c ≡ None → length lines ≡ due → CountCase end due lines c
+  Few : c ≡ Some end → length lines < due → CountCase end due lines c
+  Many : (number : ℕ) → c ≡ Some number → IsOneMore due lines number → CountCase end due lines c
 
--- one that is wrong
-pub run-bad : (n end : ℕ) (entries : List Entry) (due : ℕ) (line : WordLine) (lines : List WordLine) (w : FileWhat) → line_case n entries line ≡ Bad w → run n end entries (suc due) (line ∷ lines) ≡ Fails line.number w
-unfolding run
-run-bad n end entries due line lines w h = rw (h, run) refl
+pub exact_is : (end due : ℕ) (lines : List WordLine) → length lines ≡ due → miscount end due lines ≡ None
+unfolding miscount
+exact_is end zero [] h = refl
+exact_is end zero (line ∷ lines) h = absurd (omega arith)
+exact_is end (suc due) [] h = absurd (omega arith)
+exact_is end (suc due) (line ∷ lines) h = exact_is end due lines (omega arith)
 
--- each line that is due was right, and no more follow
-pub run-end : (n end : ℕ) (entries : List Entry) → run n end entries zero [] ≡ Writes entries
-unfolding run
-run-end n end entries = refl
+pub few_is : (end due : ℕ) (lines : List WordLine) → length lines < due → miscount end due lines ≡ Some end
+unfolding miscount
+few_is end zero lines h = absurd (omega arith)
+few_is end (suc due) [] h = refl
+few_is end (suc due) (line ∷ lines) h = few_is end due lines (omega arith)
 
--- lines are due, and none follows
-pub run-short : (n end : ℕ) (entries : List Entry) (due : ℕ) → run n end entries (suc due) [] ≡ Fails end what.Count
-unfolding run
-run-short n end entries due = refl
+pub many_is : (end due : ℕ) (front : List WordLine) (line : WordLine) (more : List WordLine) → length front ≡ due
+    → miscount end due (front ++ line ∷ more) ≡ Some line.number
+unfolding miscount
+many_is end zero [] line more h = refl
+many_is end zero (f ∷ fs) line more h = absurd (omega arith)
+many_is end (suc due) [] line more h = absurd (omega arith)
+many_is end (suc due) (f ∷ fs) line more h = many_is end due fs line more (omega arith)
 
--- no line is due, and one follows
-pub run-long : (n end : ℕ) (entries : List Entry) (line : WordLine) (lines : List WordLine) → run n end entries zero (line ∷ lines) ≡ Fails line.number what.Count
-unfolding run
-run-long n end entries line lines = refl
+one_longer : (end due : ℕ) (line : WordLine) (lines : List WordLine) (c : Option ℕ) → CountCase end due lines c → CountCase end (suc due) (line ∷ lines) c
+one_longer end due line lines c (Exact e h) = Exact e (omega arith)
+one_longer end due line lines c (Few e h) = Few e (omega arith)
+one_longer end due line lines c (Many number e h) =
+    Many number e (record { front = line ∷ h.front; line = h.line; more = h.more; split = ap (λ z. line ∷ z) h.split; full = omega (arith, h.full); here = h.here })
 
--- each entry is new after those before it
-new_at : (es : List Entry) (f : Entry) (fs : List Entry) → IsEachNew (es ++ f ∷ fs) → IsNew es f
-new_at es f fs h k d l same =
-    let long : length es < length (es ++ f ∷ fs) = simp length-append (omega arith) in
-    let here = get_or-append_seam es f fs d in
-    let before = get_or_append_left es (f ∷ fs) d k l in
-    h k (length es) d l long (ap (λ z. z.from) before ∙ same.0 ∙ sym (ap (λ z. z.from) here), ap (λ z. z.to) before ∙ same.1 ∙ sym (ap (λ z. z.to) here))
+pub miscount_holds : (end due : ℕ) (lines : List WordLine) → CountCase end due lines (miscount end due lines)
+unfolding miscount
+miscount_holds end zero [] = Exact refl (omega arith)
+miscount_holds end zero (line ∷ lines) =
+    Many line.number refl (record { front = []; line = line; more = lines; split = refl; full = refl; here = refl })
+miscount_holds end (suc due) [] = Few refl (omega arith)
+miscount_holds end (suc due) (line ∷ lines) = one_longer end due line lines (miscount end due lines) (miscount_holds end due lines)
 
--- lines that are right
-run-front : (n end : ℕ) (front more : List WordLine) (es fs : List Entry) (due left : ℕ) → AllZip (IsEntry n) front fs → IsEachNew (es ++ fs) → due ≡ length front + left → run n end es due (front ++ more) ≡ run n end (es ++ fs) left more
-run-front n end [] more es [] due left h k e =
-    let same : due ≡ left = omega arith in
-    ap (λ z. run n end es z more) same ∙ ap (λ z. run n end z left more) (sym (append-nil es))
-run-front n end [] more es (f ∷ fs) due left h k e = absurd h
-run-front n end (l ∷ ls) more es [] due left h k e = absurd h
-run-front n end (l ∷ ls) more es (f ∷ fs) zero left h k e = absurd (omega arith)
-run-front n end (l ∷ ls) more es (f ∷ fs) (suc due) left h k e =
-    let joined = append_assoc es (f ∷ []) fs in
-    run-good n end es due l (ls ++ more) f (line_case_is n es l (Good f) (h.0, new_at es f fs k))
-    ∙ run-front n end ls more (es ++ f ∷ []) fs due left h.1 (subst IsEachNew (sym joined) k) (omega arith)
-    ∙ ap (λ z. run n end z left more) joined
+-- ---- the lines that the head says
 
--- the lines at the front of a body
-pub run-are : (n end count : ℕ) (body front more : List WordLine) (entries : List Entry) (left : ℕ) → body ≡ front ++ more → AreEntries n front entries → count ≡ length front + left → run n end [] count body ≡ run n end entries left more
-run-are n end count body front more entries left split are e =
-    ap (run n end [] count) split ∙ run-front n end front more [] entries count left are.each are.once e
+take_length : (front more : List WordLine) → take (length front) (front ++ more) ≡ front
+take_length [] more = take_none more where
+  take_none : (xs : List WordLine) → take 0 xs ≡ []
+  take_none [] = refl
+  take_none (x ∷ xs) = refl
+take_length (f ∷ fs) more = ap (λ z. f ∷ z) (take_length fs more)
 
--- what a body is, for the lines of a text
-abbrev pub IsBodyCase : List WordLine → ℕ → ℕ → ℕ → List WordLine → BodyCase → Type 0
-IsBodyCase lines end n count body (Writes entries) = AreEntries n body entries × (length body ≡ count)
-IsBodyCase lines end n count body (Fails k w) = LinesHaveFault lines end k w
+take_past : (front : List WordLine) (line : WordLine) (more : List WordLine) (count : ℕ) → length front < count
+    → take count (front ++ line ∷ more) ≡ front ++ line ∷ take (count - length front - 1) more
+take_past front line more zero h = absurd (omega arith)
+take_past [] line more (suc count) h = let left : suc count - 0 - 1 ≡ count = omega arith in ap (λ z. line ∷ take z more) (sym left)
+take_past (f ∷ fs) line more (suc count) h =
+    let left : suc count - suc (length fs) - 1 ≡ count - length fs - 1 = omega arith in
+    ap (λ z. f ∷ z) (take_past fs line more count (omega arith)) ∙ ap (λ z. f ∷ (fs ++ line ∷ take z more)) (sym left)
 
--- a fault of one line
-failing : (lines : List WordLine) (end k : ℕ) (w : FileWhat) → HasFailingLine lines k w → LinesHaveFault lines end k w
-failing lines end k what.Word h = h
-failing lines end k what.StateRange h = h
-failing lines end k (what.Number fault) h = h
-failing lines end k what.Repeated h = h
-failing lines end k what.Header h = absurd h.fails
-failing lines end k what.StatesRange h = absurd h.fails
-failing lines end k what.TransitionsRange h = absurd h.fails
-failing lines end k what.Count h = absurd h.fails
-failing lines end k what.RateRange h = absurd h.fails
-failing lines end k what.Name h = absurd h.fails
-failing lines end k what.RepeatedName h = absurd h.fails
-failing lines end k what.Undeclared h = absurd h.fails
-failing lines end k what.LabelsRange h = absurd h.fails
-failing lines end k what.RewardScale h = absurd h.fails
-failing lines end k what.TooBig h = absurd h.fails
-failing lines end k what.WatchState h = absurd h.fails
+pub take_front : (front more : List WordLine) (count : ℕ) → length front ≡ count → take count (front ++ more) ≡ front
+take_front front more count h = subst (λ z. take z (front ++ more) ≡ front) h (take_length front more)
 
-zip_push : (R : WordLine → Entry → Type 0) (ls : List WordLine) (es : List Entry) (l : WordLine) (e : Entry) → AllZip R ls es → R l e → AllZip R (ls ++ l ∷ []) (es ++ e ∷ [])
-zip_push R [] [] l e h r = (r, tt)
-zip_push R [] (f ∷ fs) l e h r = absurd h
-zip_push R (k ∷ ks) [] l e h r = absurd h
-zip_push R (k ∷ ks) (f ∷ fs) l e h r = (h.0, zip_push R ks fs l e h.1 r)
-
--- one line more
-pub are_more : (n : ℕ) (front : List WordLine) (entries : List Entry) (line : WordLine) (e : Entry) → AreEntries n front entries → IsEntry n line e → IsNew entries e → AreEntries n (front ++ line ∷ []) (entries ++ e ∷ [])
-are_more n front entries line e h r new = record {
-  each = zip_push (IsEntry n) front entries line e h.each r;
-  once = all_pairs_push (λ e f. ¬ IsSamePair e f) entries e h.once (λ k d l. new k d l);
+-- a line that fails among all lines, where it is due, and among those that are due
+pub due_fails : {Key : Type 0} (kind : Kind Key) (lines : List WordLine) (count number : ℕ) (w : FileWhat) (h : HasFailingLine kind lines number w)
+    → length h.front < count → HasFailingLine kind (take count lines) number w
+due_fails kind lines count number w h due = record {
+  front = h.front;
+  line = h.line;
+  more = take (count - length h.front - 1) h.more;
+  entries = h.entries;
+  split = ap (take count) h.split ∙ take_past h.front h.line h.more count due;
+  are = h.are;
+  fails = h.fails;
+  here = h.here;
 }
 
-module _ (lines : List WordLine) (end n count : ℕ) (body : List WordLine) (head : HasHead lines n count body) where
-  front_of : (front more : List WordLine) (entries : List Entry) → body ≡ front ++ more → AreEntries n front entries → HasFront lines n count front more entries
-  front_of front more entries split are = record { body = body; head = head; split = split; are = are }
+pub record FailsInTime {Key : Type 0} (kind : Kind Key) (lines : List WordLine) (count number : ℕ) (w : FileWhat) : Type 0 where
+  pub line : HasFailingLine kind lines number w
+  pub due : length line.front < count
 
-  at_line : (front more : List WordLine) (line : WordLine) (entries : List Entry) (due : ℕ) → body ≡ front ++ line ∷ more → AreEntries n front entries → length front < count
-      → ((e : Entry) → IsEntry n line e → IsNew entries e → IsBodyCase lines end n count body (run n end (entries ++ e ∷ []) due more))
-      → (c : LineCase) → line_case n entries line ≡ c → IsBodyCase lines end n count body (run n end entries (suc due) (line ∷ more))
-  at_line front more line entries due split are short next (Good e) is =
-      let h : IsLineCase n entries line (Good e) = subst (IsLineCase n entries line) is (line_case_holds n entries line) in
-      subst (IsBodyCase lines end n count body) (sym (run-good n end entries due line more e is)) (next e h.0 h.1)
-  at_line front more line entries due split are short next (Bad w) is =
-      let h : IsLineCase n entries line (Bad w) = subst (IsLineCase n entries line) is (line_case_holds n entries line) in
-      subst (IsBodyCase lines end n count body) (sym (run-bad n end entries due line more w is))
-      (failing lines end line.number w (record {
-        n = n;
-        count = count;
-        front = front;
-        line = line;
-        more = more;
-        entries = entries;
-        good = front_of front (line ∷ more) entries split are;
-        due = short;
-        fails = h;
-        here = refl;
-      }))
-
-  -- a body is what `run` says
-  pub run_holds : (front more : List WordLine) (entries : List Entry) (due : ℕ) → body ≡ front ++ more → AreEntries n front entries → count ≡ length front + due → IsBodyCase lines end n count body (run n end entries due more)
-  unfolding run
-  run_holds front [] entries zero split are e =
-      let same : body ≡ front = split ∙ append-nil front in
-      (subst (λ z. AreEntries n z entries) (sym same) are, omega (arith, ap length same))
-  run_holds front [] entries (suc due) split are e =
-      inl (record { n = n; count = count; front = front; entries = entries; good = front_of front [] entries split are; short = omega arith; here = refl })
-  run_holds front (line ∷ more) entries zero split are e =
-      inr (record {
-        n = n;
-        count = count;
-        front = front;
-        line = line;
-        more = more;
-        entries = entries;
-        good = front_of front (line ∷ more) entries split are;
-        full = omega arith;
-        here = refl;
-      })
-  run_holds front (line ∷ more) entries (suc due) split are e =
-      at_line front more line entries due split are (omega arith)
-      (λ f r new.
-      run_holds (front ++ line ∷ []) more (entries ++ f ∷ []) due (split ∙ sym (append_assoc front (line ∷ []) more)) (are_more n front entries line f are r new) (simp length-append (omega arith)))
-      (line_case n entries line) refl
+pub fails_due : {Key : Type 0} (kind : Kind Key) (lines : List WordLine) (count number : ℕ) (w : FileWhat) → HasFailingLine kind (take count lines) number w
+    → FailsInTime kind lines count number w
+fails_due kind lines count number w h = record {
+  line = record {
+    front = h.front;
+    line = h.line;
+    more = h.more ++ drop count lines;
+    entries = h.entries;
+    split = sym (take-append-drop count lines) ∙ ap (λ z. z ++ drop count lines) h.split ∙ append_assoc h.front (h.line ∷ h.more) (drop count lines);
+    are = h.are;
+    fails = h.fails;
+    here = h.here;
+  };
+  due = short;
+}
+  where
+    short : length h.front < count
+    short = omega (arith, length-take count lines, ap length h.split, length-append h.front (h.line ∷ h.more))

@@ -1,111 +1,133 @@
--- The chain of the entries.
-use Rattle.std.proofs.Common.{◌≡◌, ℕ, ◌+◌, ◌-◌, ◌^◌, ◌<◌, ◌≤◌, Bool, true, false, cond, List, [], ◌∷◌, length, inl, inr, refl, sym, subst, ap, ◌∙◌, arith}
-use Rattle.std.proofs.lemmas.Bool.{cases_Bool, ltb-true, ltb-false}
-use Rattle.std.proofs.lemmas.List.{take_all}
-use Rattle.std.proofs.lemmas.List.Elements.{All-nil, All-cons, All-head, All-tail, All-map, All-filter, filter_passes}
+-- The chain of entries keeps the limits of a chain.
+use Rattle.std.proofs.Common.{◌≡◌, ◌≢◌, ℕ, suc, ◌<◌, ◌≤◌, inl, inr, Bool, true, false, ◌&&◌, ◌==◌, cond, nat_lt, List, [], ◌∷◌, length, map, get_or, count_by, ap, refl, sym, subst, ◌∙◌, arith}
+use Rattle.std.specs.List.{All, AllPairs, AllZip}
+use Rattle.std.proofs.lemmas.Bool.{cases_Bool, and_parts, eqb-true, ltb-true, cond-true, cond-false, false_from_ne_true}
+use Rattle.std.proofs.lemmas.List.{get_or-map, length-map}
+use Rattle.std.proofs.lemmas.List.Elements.{All-filter, All-map, filter_passes}
+use Rattle.std.proofs.lemmas.List.Kept.{AllPairs-filter}
 use Rattle.std.proofs.lemmas.List.Sums.{sum_by-cons}
-use Rattle.std.specs.Bool.{◌==◌}
-use Rattle.std.specs.List.{All, AllZip, filter, sum_by}
+use Rattle.decimal_text.specs.DecimalNumber.{DecimalNumber}
+use Rattle.decimal_text.specs.Scale.{greatest_decimals}
+use Rattle.decimal_text.proofs.Scales.{greatest_within}
 use Rattle.model_core.specs.Files.{IsTransition, IsTra}
-use Rattle.model_core.specs.Transitions.{exit_sum}
+use Rattle.model_core.specs.Transitions.{exit_sum, IsEachPairOnce}
+use Rattle.model_core.specs.declared.limits.TheConstants.{MOST_STATES, AMOUNT_LIMIT}
 use Rattle.model_core.specs.declared.rate.Rate.{Rate}
+use Rattle.text_lines.proofs.EntryReads.{zip_right}
+use Rattle.text_lines.specs.Entries.{keys_of}
+use Rattle.text_lines.specs.EntryLines.{value_of, entry_of, entries_of, IsEntryLine}
 use Rattle.text_lines.specs.WordLines.{WordLine}
-use Rattle.tra_reader.proofs.PairLemmas.{once-from-apart, once-filtered}
-use Rattle.tra_reader.proofs.RateLemmas.{pick, pick-here, is_some}
-use Rattle.tra_reader.specs.Rates.{IsKept, IsWithinScale, IsFirstPast, rate_at, sum_of}
-use Rattle.tra_reader.specs.Reading.{entry_of, IsEntryLine, AreApart, entries_of}
-use Rattle.tra_reader.specs.TraText.{greatest_decimals, scaled, scaled_rates, chain_rates}
-use Rattle.tra_reader.specs.declared.entry.EntryLine.{EntryLine}
-
-kept : (n : ℕ) (row : WordLine) (e : EntryLine) → IsEntryLine n row e → IsKept n e
-kept n row e h = record {
-  from_state = omega (arith, h.is.states.from_state.0, h.is.states.from_state.1);
-  to_state = omega (arith, h.is.states.to_state.0, h.is.states.to_state.1);
-  digits = h.is.rate.short.below;
-  decimals = h.is.rate.short.decimals;
-}
+use Rattle.text_lines.specs.declared.entry_line.EntryLine.{EntryLine}
+use Rattle.tra_reader.specs.Entries.{StatePair, Transition, AreStates, transition_lines}
+use Rattle.tra_reader.specs.Pairs.{pair_of}
+use Rattle.tra_reader.specs.Rates.{IsKept}
+use Rattle.tra_reader.specs.TraText.{AreWithin, scaled_rate, scaled_rates, chain_rates}
+use Rattle.tra_reader.specs.declared.entry.Pair.{Pair}
+use Rattle.tra_reader.proofs.RateLimits.{exit_sum-chain}
+use Rattle.tra_reader.proofs.TransitionKinds.{same_pair}
 
 -- the entries of lines are between states, with rates that words can write
-pub kept-lines : (n : ℕ) (rows : List WordLine) (es : List EntryLine) → AllZip (IsEntryLine n) rows es → All (IsKept n) es
-kept-lines n [] [] h = All-nil (IsKept n)
-kept-lines n [] (e ∷ es) h = absurd h
-kept-lines n (r ∷ rs) [] h = absurd h
-kept-lines n (r ∷ rs) (e ∷ es) h = All-cons (IsKept n) e es (kept n r e h.0) (kept-lines n rs es h.1)
+pub kept_lines : (n : ℕ) (lines : List WordLine) (es : List (EntryLine Pair)) → AllZip (IsEntryLine (transition_lines n) pair_of) lines es → All (IsKept n) es
+kept_lines n lines es h =
+    zip_right (IsEntryLine (transition_lines n) pair_of) (IsKept n)
+    (λ line e is. let states = is.is.key.in_range in record {
+      from_state = omega (arith, states.from_state.1);
+      to_state = omega (arith, states.to_state.1);
+      decimals = is.is.value.short.decimals;
+    }) lines es h
 
--- no entry has more decimals than the greatest number of decimals
-pub greatest-within : (s : ℕ) (es : List EntryLine) → greatest_decimals (entries_of es) ≤ s → All (IsWithinScale s) es
-unfolding greatest_decimals
-greatest-within s [] h = All-nil (IsWithinScale s)
-greatest-within s (e ∷ es) h = All-cons (IsWithinScale s) e es (omega arith) (greatest-within s es (omega arith))
+-- ---- the transitions of n states
 
--- and it is at most 18
-pub greatest-small : (n : ℕ) (es : List EntryLine) → All (IsKept n) es → greatest_decimals (entries_of es) ≤ 18
-unfolding greatest_decimals
-greatest-small n [] h = omega arith
-greatest-small n (e ∷ es) h = omega (arith, (All-head (IsKept n) e es h).decimals, greatest-small n es (All-tail (IsKept n) e es h))
+pub few_decimals : (n : ℕ) (es : List (EntryLine Pair)) → All (IsKept n) es → greatest_decimals (map value_of es) ≤ 18
+few_decimals n es h = greatest_within 18 (map value_of es) (All-map (λ (d : DecimalNumber). d.x ≤ 18) value_of es (λ k d l. (h k d l).decimals))
 
-sum_of-first : (scale : ℕ) (e : EntryLine) (es : List EntryLine) (s : ℕ) → sum_of scale (e ∷ es) s ≡ pick s (scaled scale (entry_of e)) + sum_of scale es s
-sum_of-first scale e es s = sum_by-cons (pick s) (scaled scale (entry_of e)) (scaled_rates scale (entries_of es))
-
--- each rate is at most the sum of its state's
-pub rates-fit : (scale : ℕ) (es : List EntryLine) → ((s : ℕ) → sum_of scale es s < 2 ^ 63) → All (λ e. rate_at scale e < 2 ^ 63) es
-rates-fit scale [] below = All-nil (λ e. rate_at scale e < 2 ^ 63)
-rates-fit scale (e ∷ es) below =
-    let from = e.from + 1 - 1 in
-    let itself : pick from (scaled scale (entry_of e)) ≡ rate_at scale e = pick-here from (scaled scale (entry_of e)) refl in
-    All-cons (λ x. rate_at scale x < 2 ^ 63) e es (omega (arith, below from, sum_of-first scale e es from)) (rates-fit scale es (λ s. omega (arith, below s, sum_of-first scale e es s)))
-
-either_zero : (b : Bool) → cond {A = ℕ} b 0 0 ≡ 0
-either_zero true = refl
-either_zero false = refl
-
-pick-nothing : (s : ℕ) (r : Rate) → r.rate ≡ 0 → pick s r ≡ 0
-pick-nothing s r none = ap (λ z. cond (r.from == s) z 0) none ∙ either_zero (r.from == s)
-
--- rates of 0 add nothing
-exits-kept : (rs : List Rate) (s : ℕ) → exit_sum (filter is_some rs) s ≡ exit_sum rs s
-exits-kept [] s = refl
-exits-kept (r ∷ rs) s =
-    elim (cases_Bool (is_some r)) [
-      | inl some ↦
-          let is : filter is_some (r ∷ rs) ≡ r ∷ filter is_some rs = ap (λ b. cond b (r ∷ filter is_some rs) (filter is_some rs)) some in
-          omega (arith, ap (sum_by (pick s)) is, sum_by-cons (pick s) r (filter is_some rs), sum_by-cons (pick s) r rs, exits-kept rs s)
-      | inr none ↦
-          let is : filter is_some (r ∷ rs) ≡ filter is_some rs = ap (λ b. cond b (r ∷ filter is_some rs) (filter is_some rs)) none in
-          let nothing : pick s r ≡ 0 = pick-nothing s r (omega (arith, ltb-false 0 r.rate none)) in
-          omega (arith, ap (sum_by (pick s)) is, sum_by-cons (pick s) r rs, exits-kept rs s)
-    ]
-
--- no state's rates add up to too much where there is no first entry at which they do
-pub sums-below : (scale : ℕ) (es : List EntryLine) (place : ℕ) → length es ≤ place → IsFirstPast scale es place → (s : ℕ) → sum_of scale es s < 2 ^ 63
-sums-below scale es place all h s =
-    let Below : List EntryLine → Type 0 = λ z. sum_of scale z s < 2 ^ 63 in
-    subst Below (take_all place es all) (h.below s)
-
-pub chain-exits : (scale : ℕ) (es : List EntryLine) → ((s : ℕ) → sum_of scale es s < 2 ^ 63) → (s : ℕ) → exit_sum (chain_rates scale (entries_of es)) s < 2 ^ 63
-chain-exits scale es below s = omega (arith, exits-kept (scaled_rates scale (entries_of es)) s, below s)
+-- the states of entries that are kept are states from 1
+states_are : (n : ℕ) (es : List (EntryLine Pair)) → All (IsKept n) es → All (λ e. AreStates n e.key) (entries_of pair_of es)
+states_are n es h =
+    All-map (λ (e : Transition). AreStates n e.key) (entry_of pair_of) es
+    (λ k d l. let is = h k d l in record { from_state = (omega arith, omega (arith, is.from_state)); to_state = (omega arith, omega (arith, is.to_state)) })
 
 abbrev IsBetween : ℕ → Rate → Type 0
 IsBetween n r = (r.from < n) × (r.to < n)
 
-transitions : (n scale : ℕ) (es : List EntryLine) → All (IsKept n) es → All (IsTransition n) (chain_rates scale (entries_of es))
-transitions n scale es h =
-    let all : All (IsBetween n) (scaled_rates scale (entries_of es)) =
-    All-map (IsBetween n) (scaled scale) (entries_of es) (All-map (λ e. IsBetween n (scaled scale e)) entry_of es (λ k d within. let is = h k d within in (omega (arith, is.from_state), omega (arith, is.to_state)))) in
-    λ k d within.
-    let both = All-filter is_some (IsBetween n) (scaled_rates scale (entries_of es)) all k d within in
-    let some = filter_passes is_some (scaled_rates scale (entries_of es)) k d within in
-    record { from_within = both.0; to_within = both.1; positive = omega (arith, ltb-true 0 _ some) }
+transitions_are : (n d : ℕ) (entries : List Transition) → All (λ e. AreStates n e.key) entries → All (IsTransition n) (chain_rates d entries)
+transitions_are n d entries h k r l =
+    let positive : Rate → Bool = λ r. nat_lt 0 r.rate in
+    let all = All-map (IsBetween n) (scaled_rate d) entries
+    (λ i e b. let from = (h i e b).from_state in let to = (h i e b).to_state in (omega (arith, from.0, from.1), omega (arith, to.0, to.1))) in
+    let between = All-filter positive (IsBetween n) (scaled_rates d entries) all k r l in
+    let passes = filter_passes positive (scaled_rates d entries) k r l in
+    record { from_within = between.0; to_within = between.1; positive = omega (arith, ltb-true 0 _ passes) }
 
--- the entries make a chain
-pub is-tra : (n scale : ℕ) (es : List EntryLine) (rates : List Rate) → 1 ≤ n → n ≤ 65536 → scale ≤ 18 → All (IsKept n) es → AreApart es → ((s : ℕ) → sum_of scale es s < 2 ^ 63) → rates ≡ chain_rates scale (entries_of es) → IsTra (record { n = n; scale = scale; rates = rates })
-is-tra n scale es rates some few short h apart below is =
-    let Tra : List Rate → Type 0 = λ z. IsTra (record { n = n; scale = scale; rates = z }) in
-    subst Tra (sym is) (record {
+-- ---- no pair of states has two
+
+-- where no two elements pass a test, one does at most
+none_pass : {X : Type 0} (p : X → Bool) (xs : List X) → ((k : ℕ) (d : X) → k < length xs → p (get_or xs k d) ≡ false) → count_by p xs ≡ 0
+none_pass p [] h = refl
+none_pass {X} p (x ∷ xs) h =
+    omega (arith, sum_by-cons (λ (y : X). cond (p y) 1 0) x xs, cond-false {A = ℕ} (p x) 1 0 (h 0 x (omega arith)), none_pass p xs (λ k d l. h (suc k) d (omega arith)))
+
+one_passes : {X : Type 0} (p : X → Bool) (xs : List X) → AllPairs (λ x y. p x ≡ true → p y ≡ true → ⊥) xs → count_by p xs ≤ 1
+one_passes p [] h = omega arith
+one_passes {X} p (x ∷ xs) h =
+    elim (cases_Bool (p x)) [
+      | inl t ↦ omega (arith, sum_by-cons (λ (y : X). cond (p y) 1 0) x xs, cond-true {A = ℕ} (p x) 1 0 t, none_pass p xs (λ k d l. false_from_ne_true (p (get_or xs k d)) (h 0 (suc k) d (omega arith) (omega arith) t)))
+      | inr f ↦ omega (arith, sum_by-cons (λ (y : X). cond (p y) 1 0) x xs, cond-false {A = ℕ} (p x) 1 0 f, one_passes p xs (λ i j d l k. h (suc i) (suc j) d (omega arith) (omega arith)))
+    ]
+
+-- two transitions that are between the same states
+abbrev IsSameRatePair : Rate → Rate → Type 0
+IsSameRatePair q r = (q.from ≡ r.from) × (q.to ≡ r.to)
+
+new_pairs : (n d : ℕ) (entries : List Transition) → All (λ e. AreStates n e.key) entries → AllPairs ◌≢◌ (keys_of entries)
+    → AllPairs (λ q r. ¬ IsSameRatePair q r) (scaled_rates d entries)
+new_pairs n d [] h once i j r l k same = absurd (omega arith)
+new_pairs n d (e ∷ es) h once i j r l k same =
+    let entries = e ∷ es in
+    let long : length (scaled_rates d entries) ≡ length entries = length-map entries (scaled_rate d) in
+    let keys : length (keys_of entries) ≡ length entries = length-map entries (λ e. e.key) in
+    let first = get_or-map (scaled_rate d) entries i e r (omega arith) in
+    let second = get_or-map (scaled_rate d) entries j e r (omega arith) in
+    let a = h i e (omega arith) in
+    let b = h j e (omega arith) in
+    let p : StatePair = (get_or entries i e).key in
+    let q : StatePair = (get_or entries j e).key in
+    let froms = sym (ap (λ (z : Rate). z.from) first) ∙ same.0 ∙ ap (λ (z : Rate). z.from) second in
+    let tos = sym (ap (λ (z : Rate). z.to) first) ∙ same.1 ∙ ap (λ (z : Rate). z.to) second in
+    let from : p.from ≡ q.from = omega (arith, froms, a.from_state.0, b.from_state.0) in
+    let to : p.to ≡ q.to = omega (arith, tos, a.to_state.0, b.to_state.0) in
+    let left = get_or-map (λ (z : Transition). z.key) entries i e p (omega arith) in
+    let right = get_or-map (λ (z : Transition). z.key) entries j e p (omega arith) in
+    once i j p l (omega arith) (left ∙ same_pair p q from to ∙ sym right)
+
+pairs_once : (n d : ℕ) (entries : List Transition) → All (λ e. AreStates n e.key) entries → AllPairs ◌≢◌ (keys_of entries)
+    → IsEachPairOnce (chain_rates d entries)
+pairs_once n d entries h once s t =
+    let kept = AllPairs-filter (λ q r. ¬ IsSameRatePair q r) (λ (r : Rate). nat_lt 0 r.rate) (scaled_rates d entries) (new_pairs n d entries h once) in
+    one_passes (λ (r : Rate). (r.from == s) && (r.to == t)) (chain_rates d entries)
+    (λ i j r l k a b.
+    let first = and_parts _ _ a in
+    let second = and_parts _ _ b in
+    kept i j r l k (eqb-true _ s first.0 ∙ sym (eqb-true _ s second.0), eqb-true _ t first.1 ∙ sym (eqb-true _ t second.1)))
+
+-- ---- the exit rates
+
+pub exits_are : (scale : ℕ) (es : List (EntryLine Pair)) (rates : List Rate) → rates ≡ chain_rates scale (entries_of pair_of es)
+    → AreWithin scale (entries_of pair_of es) → (s : ℕ) → exit_sum rates s < AMOUNT_LIMIT
+exits_are scale es rates is within s = omega (arith, ap (λ z. exit_sum z s) is, exit_sum-chain scale (entries_of pair_of es) s, within s)
+
+-- so they are a chain
+pub is_tra : (n scale : ℕ) (es : List (EntryLine Pair)) (rates : List Rate) → 1 ≤ n → n ≤ MOST_STATES → scale ≤ 18 → All (IsKept n) es
+    → AllPairs ◌≢◌ (keys_of (entries_of pair_of es)) → AreWithin scale (entries_of pair_of es) → rates ≡ chain_rates scale (entries_of pair_of es)
+    → IsTra (record { n = n; scale = scale; rates = rates })
+is_tra n scale es rates some few short h once within is =
+    let entries = entries_of pair_of es in
+    let states = states_are n es h in
+    subst (λ z. IsTra (record { n = n; scale = scale; rates = z })) (sym is) (record {
       some_state = some;
       few_states = few;
       decimals = short;
-      transitions = transitions n scale es h;
-      once = once-filtered is_some (scaled_rates scale (entries_of es)) (once-from-apart scale es apart);
-      exits = chain-exits scale es below;
+      transitions = transitions_are n scale entries states;
+      once = pairs_once n scale entries states once;
+      exits = exits_are scale es (chain_rates scale entries) refl within;
     })

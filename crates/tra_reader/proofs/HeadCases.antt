@@ -9,9 +9,11 @@ use Rattle.text_lines.specs.WholeNumber.{whole_value}
 use Rattle.text_lines.specs.WordLines.{WordLine}
 use Rattle.text_lines.specs.declared.fault.FileWhat.{FileWhat}
 use Rattle.text_lines.specs.declared.fault.FileWhat.TheVariants as what
-use Rattle.tra_reader.specs.Head.{BeginsWithCount, HasStates, HasHead, most_transitions}
+use Rattle.model_core.proofs.StateNumbers.{is_state, state_decides}
+use Rattle.model_core.specs.declared.limits.TheConstants.{MOST_STATES, MOST_TRANSITIONS}
+use Rattle.text_lines.proofs.WholeNumbers.{one_whole}
+use Rattle.tra_reader.specs.Head.{BeginsWithCount, HasStates, HasHead}
 use Rattle.tra_reader.specs.TraFault.{line_or_end, LacksCount, LacksTransitions, StatesOutOfRange, TransitionsOutOfRange, LinesHaveFault}
-use Rattle.tra_reader.proofs.EntryCases.{one_whole, is_state, state_true, true_state}
 
 -- a line's number, its count, and the lines after it, where it is a keyword and a count
 pub data CountCase : Type 0 where
@@ -20,7 +22,7 @@ pub data CountCase : Type 0 where
 
 abbrev pub IsCountCase : List ℕ → List WordLine → CountCase → Type 0
 IsCountCase keyword lines NoCount = (count : ℕ) (others : List WordLine) → ¬ BeginsWithCount keyword lines count others
-IsCountCase keyword lines (Counts number count others) = (b : BeginsWithCount keyword lines count others) × (b.number ≡ number)
+IsCountCase keyword lines (Counts number count others) = (b : BeginsWithCount keyword lines count others) × (b.line.number ≡ number)
 
 same_line : (l k : WordLine) (ls ks : List WordLine) → l ∷ ls ≡ k ∷ ks → l ≡ k
 same_line l k ls ks e = cc
@@ -28,22 +30,19 @@ same_line l k ls ks e = cc
 same_lines : (l k : WordLine) (ls ks : List WordLine) → l ∷ ls ≡ k ∷ ks → ls ≡ ks
 same_lines l k ls ks e = cc
 
-abbrev line_of : ℕ → List (List ℕ) → WordLine
-line_of number words = record { number = number; words = words }
-
 count_case_unique : (keyword : List ℕ) (lines : List WordLine) (p q : CountCase) → IsCountCase keyword lines p → IsCountCase keyword lines q → p ≡ q
 count_case_unique keyword lines NoCount NoCount h k = refl
 count_case_unique keyword lines NoCount (Counts number count others) h k = absurd (h count others k.0)
 count_case_unique keyword lines (Counts number count others) NoCount h k = absurd (k count others h.0)
 count_case_unique keyword lines (Counts number count others) (Counts number' count' others') h k =
-    let v = line_of h.0.number (keyword ∷ h.0.word ∷ []) in
-    let w = line_of k.0.number (keyword ∷ k.0.word ∷ []) in
     let e = sym h.0.first ∙ k.0.first in
-    let line = same_line v w others others' e in
+    let line : h.0.line ≡ k.0.line = same_line h.0.line k.0.line others others' e in
     let numbers : number ≡ number' = sym h.1 ∙ ap (λ z. z.number) line ∙ k.1 in
-    let words : h.0.word ≡ k.0.word = second keyword keyword h.0.word k.0.word (ap (λ z. z.words) line) in
-    let counts : count ≡ count' = one_whole h.0.word k.0.word count count' h.0.whole k.0.whole words in
-    let after : others ≡ others' = same_lines v w others others' e in
+    let said = h.0.says in
+    let again = k.0.says in
+    let words : said.word ≡ again.word = second keyword keyword said.word again.word (sym said.are ∙ ap (λ z. z.words) line ∙ again.are) in
+    let counts : count ≡ count' = one_whole said.word again.word count count' said.whole again.whole words in
+    let after : others ≡ others' = same_lines h.0.line k.0.line others others' e in
     cc
   where
     second : (a b c d : List ℕ) → a ∷ c ∷ [] ≡ b ∷ d ∷ [] → c ≡ d
@@ -52,7 +51,7 @@ count_case_unique keyword lines (Counts number count others) (Counts number' cou
 -- a first line with other words
 not_two : (keyword : List ℕ) (line : WordLine) (lines : List WordLine) → ((word : List ℕ) → IsNumeral 10 word → line.words ≡ keyword ∷ word ∷ [] → ⊥) → IsCountCase keyword (line ∷ lines) NoCount
 not_two keyword line lines n count others b =
-    n b.word b.whole.digits (ap (λ z. z.words) (same_line line (line_of b.number (keyword ∷ b.word ∷ [])) lines others b.first))
+    n b.says.word b.says.whole.digits (ap (λ z. z.words) (same_line line b.line lines others b.first) ∙ b.says.are)
 
 of_two : (keyword : List ℕ) (line : WordLine) (lines : List WordLine) (a b : List ℕ) → line.words ≡ a ∷ b ∷ [] → (c : CountCase) × IsCountCase keyword (line ∷ lines) c
 of_two keyword line lines a b e =
@@ -67,11 +66,10 @@ of_two keyword line lines a b e =
         | inr n ↦ (NoCount, not_two keyword line lines (λ word d h. n (subst (IsNumeral 10) (second keyword a word b (sym h ∙ e)) d)))
         | inl d ↦
             let same : a ≡ keyword = (bytes_decides a keyword).0 t in
-            let words : line.words ≡ keyword ∷ b ∷ [] = e ∙ ap (λ z. z ∷ b ∷ []) same in
-            let put : List (List ℕ) → List WordLine = λ z. line_of line.number z ∷ lines in (
+            let words : line.words ≡ keyword ∷ b ∷ [] = e ∙ ap (λ z. z ∷ b ∷ []) same in (
               Counts line.number (whole_value b) lines,
               (
-                record { number = line.number; word = b; first = ap put words; whole = record { digits = d; value = refl } },
+                record { line = line; first = refl; says = record { word = b; are = words; whole = record { digits = d; value = refl } } },
                 refl,
               ),
             )
@@ -94,7 +92,7 @@ more_words : (a b c : List ℕ) (more : List (List ℕ)) (v w : List ℕ) → a 
 more_words a b c more v w e = cc
 
 some_count_case : (keyword : List ℕ) (lines : List WordLine) → (c : CountCase) × IsCountCase keyword lines c
-some_count_case keyword [] = (NoCount, λ count others b. nothing others (line_of b.number (keyword ∷ b.word ∷ [])) b.first) where
+some_count_case keyword [] = (NoCount, λ count others b. nothing others b.line b.first) where
   nothing : (ls : List WordLine) (l : WordLine) → [] ≡ l ∷ ls → ⊥
   nothing ls l e = cc
 some_count_case keyword (line ∷ lines) = by_words keyword line lines line.words refl where
@@ -127,12 +125,12 @@ IsHeadCase lines end (NoHead number w) = LinesHaveFault lines end number w
 
 abbrev by_transitions : ℕ → List WordLine → ℕ → CountCase → HeadCase
 by_transitions n others end NoCount = NoHead (line_or_end others end) what.Header
-by_transitions n others end (Counts number count body) = cond (nat_lt most_transitions count) (NoHead number what.TransitionsRange) (Head n count body)
+by_transitions n others end (Counts number count body) = cond (nat_lt MOST_TRANSITIONS count) (NoHead number what.TransitionsRange) (Head n count body)
 
 abbrev by_states : List WordLine → ℕ → CountCase → HeadCase
 by_states lines end NoCount = NoHead (line_or_end lines end) what.Header
 by_states lines end (Counts number n others) =
-    cond (is_state 65536 n) (by_transitions n others end (count_case (codes "TRANSITIONS") others)) (NoHead number what.StatesRange)
+    cond (is_state MOST_STATES n) (by_transitions n others end (count_case (codes "TRANSITIONS") others)) (NoHead number what.StatesRange)
 
 pub head_case : List WordLine → ℕ → HeadCase
 head_case lines end = by_states lines end (count_case (codes "STATES") lines)
@@ -141,19 +139,19 @@ head_case lines end = by_states lines end (count_case (codes "STATES") lines)
 with_states : (lines : List WordLine) (end n : ℕ) (others : List WordLine) → HasStates lines n others → head_case lines end ≡ by_transitions n others end (count_case (codes "TRANSITIONS") others)
 unfolding head_case
 with_states lines end n others h =
-    ap (by_states lines end) (count_case_is (codes "STATES") lines (Counts h.begins.number n others) (h.begins, refl))
-    ∙ cond-true (is_state 65536 n) _ _ (state_true 65536 n h.range)
+    ap (by_states lines end) (count_case_is (codes "STATES") lines (Counts h.begins.line.number n others) (h.begins, refl))
+    ∙ cond-true (is_state MOST_STATES n) _ _ ((state_decides MOST_STATES n).1 h.range)
 
-with_head : (lines : List WordLine) (end n : ℕ) (others : List WordLine) (count : ℕ) (body : List WordLine) → HasStates lines n others → (b : BeginsWithCount (codes "TRANSITIONS") others count body) → head_case lines end ≡ by_transitions n others end (Counts b.number count body)
+with_head : (lines : List WordLine) (end n : ℕ) (others : List WordLine) (count : ℕ) (body : List WordLine) → HasStates lines n others → (b : BeginsWithCount (codes "TRANSITIONS") others count body) → head_case lines end ≡ by_transitions n others end (Counts b.line.number count body)
 with_head lines end n others count body h b =
     with_states lines end n others h
-    ∙ ap (by_transitions n others end) (count_case_is (codes "TRANSITIONS") others (Counts b.number count body) (b, refl))
+    ∙ ap (by_transitions n others end) (count_case_is (codes "TRANSITIONS") others (Counts b.line.number count body) (b, refl))
 
 -- the head is right
 pub head_is : (lines : List WordLine) (end n count : ℕ) (body : List WordLine) → HasHead lines n count body → head_case lines end ≡ Head n count body
 head_is lines end n count body h =
     with_head lines end n h.others count body h.states h.begins
-    ∙ cond-false (nat_lt most_transitions count) _ _ (le-ltb most_transitions count h.few)
+    ∙ cond-false (nat_lt MOST_TRANSITIONS count) _ _ (le-ltb MOST_TRANSITIONS count h.few)
 
 pub lacks_states : (lines : List WordLine) (end number : ℕ) → LacksCount (codes "STATES") lines end number → head_case lines end ≡ NoHead number what.Header
 unfolding head_case
@@ -170,14 +168,14 @@ lacks_transitions lines end number h =
 pub states_outside : (lines : List WordLine) (end number : ℕ) → StatesOutOfRange lines number → head_case lines end ≡ NoHead number what.StatesRange
 unfolding head_case
 states_outside lines end number h =
-    ap (by_states lines end) (count_case_is (codes "STATES") lines (Counts h.begins.number h.n h.others) (h.begins, refl))
-    ∙ cond-false (is_state 65536 h.n) _ _ (false_from_ne_true (is_state 65536 h.n) (λ t. h.outside (true_state 65536 h.n t)))
+    ap (by_states lines end) (count_case_is (codes "STATES") lines (Counts h.begins.line.number h.n h.others) (h.begins, refl))
+    ∙ cond-false (is_state MOST_STATES h.n) _ _ (false_from_ne_true (is_state MOST_STATES h.n) (λ t. h.outside ((state_decides MOST_STATES h.n).0 t)))
     ∙ ap (λ z. NoHead z what.StatesRange) (sym h.here)
 
 pub transitions_outside : (lines : List WordLine) (end number : ℕ) → TransitionsOutOfRange lines number → head_case lines end ≡ NoHead number what.TransitionsRange
 transitions_outside lines end number h =
     with_head lines end h.n h.others h.count h.body h.states h.begins
-    ∙ cond-true (nat_lt most_transitions h.count) _ _ (lt-ltb most_transitions h.count h.outside)
+    ∙ cond-true (nat_lt MOST_TRANSITIONS h.count) _ _ (lt-ltb MOST_TRANSITIONS h.count h.outside)
     ∙ ap (λ z. NoHead z what.TransitionsRange) (sym h.here)
 
 -- ---- the head is what `head_case` says
@@ -188,12 +186,12 @@ transitions_hold lines end n others NoCount h k =
 transitions_hold lines end n others (Counts number count body) h k =
     let outside = NoHead number what.TransitionsRange in
     let right = Head n count body in
-    elim (cases_lt most_transitions count) [
+    elim (cases_lt MOST_TRANSITIONS count) [
       | inl more ↦
-          subst (IsHeadCase lines end) (sym (cond-true (nat_lt most_transitions count) outside right (lt-ltb most_transitions count more)))
+          subst (IsHeadCase lines end) (sym (cond-true (nat_lt MOST_TRANSITIONS count) outside right (lt-ltb MOST_TRANSITIONS count more)))
           (record { n = n; others = others; states = h; count = count; body = body; begins = k.0; outside = more; here = sym k.1 })
       | inr few ↦
-          subst (IsHeadCase lines end) (sym (cond-false (nat_lt most_transitions count) outside right (le-ltb most_transitions count few)))
+          subst (IsHeadCase lines end) (sym (cond-false (nat_lt MOST_TRANSITIONS count) outside right (le-ltb MOST_TRANSITIONS count few)))
           (record { others = others; states = h; begins = k.0; few = few })
     ]
 
@@ -202,13 +200,13 @@ states_hold lines end NoCount k = inl (record { lacks = k; here = refl })
 states_hold lines end (Counts number n others) k =
     let right = by_transitions n others end (count_case (codes "TRANSITIONS") others) in
     let outside = NoHead number what.StatesRange in
-    elim (cases_Bool (is_state 65536 n)) [
+    elim (cases_Bool (is_state MOST_STATES n)) [
       | inl t ↦
-          subst (IsHeadCase lines end) (sym (cond-true (is_state 65536 n) right outside t))
-          (transitions_hold lines end n others (count_case (codes "TRANSITIONS") others) (record { begins = k.0; range = true_state 65536 n t }) (count_case_holds (codes "TRANSITIONS") others))
+          subst (IsHeadCase lines end) (sym (cond-true (is_state MOST_STATES n) right outside t))
+          (transitions_hold lines end n others (count_case (codes "TRANSITIONS") others) (record { begins = k.0; range = (state_decides MOST_STATES n).0 t }) (count_case_holds (codes "TRANSITIONS") others))
       | inr f ↦
-          subst (IsHeadCase lines end) (sym (cond-false (is_state 65536 n) right outside f))
-          (record { n = n; others = others; begins = k.0; outside = λ r. both_ways (is_state 65536 n) f (state_true 65536 n r); here = sym k.1 })
+          subst (IsHeadCase lines end) (sym (cond-false (is_state MOST_STATES n) right outside f))
+          (record { n = n; others = others; begins = k.0; outside = λ r. both_ways (is_state MOST_STATES n) f ((state_decides MOST_STATES n).1 r); here = sym k.1 })
     ]
 
 pub head_holds : (lines : List WordLine) (end : ℕ) → IsHeadCase lines end (head_case lines end)

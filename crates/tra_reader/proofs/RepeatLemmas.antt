@@ -11,6 +11,7 @@ use Rattle.std.specs.Bool.{◌==◌}
 use Rattle.std.specs.List.{AllPairs, Contains}
 use Rattle.std.specs.List.Sorted.{IsPermutation, IsSorted, IsNonDecreasing, IsStrictlyIncreasing}
 use Rattle.std.specs.Ordering.{nat_cmp}
+use Rattle.model_core.specs.declared.limits.TheConstants.{MOST_TRANSITIONS}
 use Rattle.tra_reader.specs.Repeats.{places, AreKeys, IsSameAsNext, IsLeastMark, IsFirstRepeat}
 
 -- what a mark is after the keys below i
@@ -82,7 +83,7 @@ turned x y =
       | inr other ↦ other ∙ sym (ne_eqb y x (λ e. eqb-false x y other (sym e)))
     ]
 
-module _ (numbers keys sorted : List ℕ) (few : length numbers ≤ 1000000) (are : AreKeys numbers keys) (moved : IsPermutation keys sorted) (in_order : IsSorted nat_cmp sorted) where
+module _ (numbers keys sorted : List ℕ) (few : length numbers ≤ MOST_TRANSITIONS) (are : AreKeys numbers keys) (moved : IsPermutation keys sorted) (in_order : IsSorted nat_cmp sorted) where
   -- where the key of a place stands
   sorted_of : (i : ℕ) → i < length numbers → (p : ℕ) × (p < length sorted) × (get_or sorted p 0 ≡ get_or numbers i 0 * places + i)
   sorted_of i within =

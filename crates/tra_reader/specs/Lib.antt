@@ -1,8 +1,9 @@
 pub mod Entries
 pub mod Head
-pub mod Laws
-pub mod Rates
-pub mod Reading
-pub mod Repeats
-pub mod TraFault
 pub mod TraText
+pub mod TraFault
+-- what the reader's own functions say
+pub mod Pairs
+pub mod Reading
+pub mod Rates
+pub mod Repeats

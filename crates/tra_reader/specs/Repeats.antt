@@ -1,10 +1,11 @@
 -- How a repeated pair of states is found: the entries' places are sorted by their pairs.
 use Rattle.std.specs.Prelude.{◌≡◌, ◌≢◌, ℕ, ◌+◌, ◌*◌, ◌/◌, ◌%◌, ◌^◌, ◌<◌, ◌≤◌, List, length, map, take, AllPairs, slice_index}
-use Rattle.tra_reader.specs.declared.entry.EntryLine.{EntryLine}
+use Rattle.text_lines.specs.declared.entry_line.EntryLine.{EntryLine}
+use Rattle.tra_reader.specs.declared.entry.Pair.{Pair}
 
 -- the number of the pair of states of an entry
-abbrev pub pair_of : EntryLine → ℕ
-pair_of e = e.from * 2 ^ 16 + e.to
+abbrev pub number_of : EntryLine Pair → ℕ
+number_of e = e.key.from * 2 ^ 16 + e.key.to
 
 -- more than any entry's place
 abbrev pub places : ℕ
@@ -32,5 +33,5 @@ pub record IsFirstRepeat (numbers : List ℕ) (place : ℕ) : Type 0 where
   pub repeats : place < length numbers → (i : ℕ) × (i < place) × (slice_index numbers i ≡ slice_index numbers place)
 
 -- the same of the entries' pairs
-abbrev pub IsFirstRepeated : List EntryLine → ℕ → Type 0
-IsFirstRepeated entries place = IsFirstRepeat (map pair_of entries) place
+abbrev pub IsFirstRepeated : List (EntryLine Pair) → ℕ → Type 0
+IsFirstRepeated entries place = IsFirstRepeat (map number_of entries) place

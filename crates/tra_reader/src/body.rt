@@ -3,15 +3,16 @@ ghost use Rattle.std.specs.Prelude.{ℕ, ◌<◌, ◌≤◌, IfOk, IfErr};
 ghost use Rattle.text_lines.specs.WordLines.{word_lines_in};
 ghost use Rattle.tra_reader.specs.Reading.{IsNextEntry, StopsAt, IsBody};
 
-use crate::entry::{EntryLine, read_entry};
+use crate::entry::{Pair, read_entry};
 use crate::head::Head;
+use model_core::MOST_STATES;
 use std::alloc::{AllocError, Global};
-use text_lines::{FileFault, LineIter, next_filled};
+use text_lines::{EntryLine, FileWhat, LineIter, next_filled};
 
 // The transitions that were read, and why no more of them were.
 #[derive(Drop)]
 pub(crate) struct Body {
-    pub(crate) entries: Vec<EntryLine>,
+    pub(crate) entries: Vec<EntryLine<Pair>>,
     pub(crate) stop: Stop,
 }
 
@@ -24,8 +25,8 @@ pub(crate) enum Stop {
     Missing,
     // There is a further line, of this number.
     Further(u64),
-    // A line is wrong.
-    Failing(FileFault),
+    // The line of this number is wrong.
+    Failing(u64, FileWhat),
 }
 
 // The transitions of the lines after the head, until all are read or a line fails. There is room for so many at first.
@@ -35,7 +36,7 @@ pub(crate) fn read_body<'a>(
     head: Head,
     capacity: usize,
 ) -> Result<Body, AllocError>
-    requires { head.states ≤ 65536 }
+    requires { head.states ≤ MOST_STATES }
     ensures { IfOk result (λ body. IsBody head.states head.transitions (word_lines_in lines.old) body) }
 {
     let mut entries = Vec::with_capacity(alloc, capacity)?;
@@ -53,8 +54,8 @@ pub(crate) fn read_body<'a>(
 }
 
 // The transition of the next line, where one is due, or why there is none.
-fn next_entry<'a>(lines: &mut LineIter<'a>, n: u32) -> Result<EntryLine, Stop>
-    requires { n ≤ 65536 }
+fn next_entry<'a>(lines: &mut LineIter<'a>, n: u32) -> Result<EntryLine<Pair>, Stop>
+    requires { n ≤ MOST_STATES }
     ensures entry { IfOk result (λ e. IsNextEntry n (word_lines_in lines.old) e (word_lines_in lines.new)) }
     ensures stop { IfErr result (λ stop. (count done : ℕ) → done < count → StopsAt n count done (word_lines_in lines.old) stop) }
 {
@@ -63,9 +64,6 @@ fn next_entry<'a>(lines: &mut LineIter<'a>, n: u32) -> Result<EntryLine, Stop>
     };
     match read_entry(line, n) {
         Ok(entry) => Ok(entry),
-        Err(what) => Err(Stop::Failing(FileFault {
-            line: line.number,
-            what,
-        })),
+        Err(what) => Err(Stop::Failing(line.number, what)),
     }
 }

@@ -1,19 +1,19 @@
 // The line of a transition.
 ghost use Rattle.std.specs.Prelude.{◌≤◌, IfOk, IfErr};
-ghost use Rattle.tra_reader.specs.Reading.{IsEntryLine, FailsAnyway, WritesStates};
+ghost use Rattle.text_lines.specs.Entries.{HasKey};
+ghost use Rattle.text_lines.specs.EntryLines.{IsEntryLine, FailsAnyway};
 ghost use Rattle.text_lines.specs.Items.{row_of_line};
+ghost use Rattle.tra_reader.specs.Entries.{transition_lines};
+ghost use Rattle.tra_reader.specs.Pairs.{pair_of};
 
 use crate::row::three_words;
 use decimal_text::read;
-use text_lines::{FileWhat, Line, whole};
+use model_core::MOST_STATES;
+use text_lines::{EntryLine, FileWhat, Line, whole};
 
-// A transition as its line writes it, in 24 bytes: the line's number, the rate `digits / 10^decimals`, and the states,
-// numbered from 0.
+// The two states of a transition, numbered from 0. With it an `EntryLine` has 24 bytes.
 #[derive(Clone, Copy)]
-pub(crate) struct EntryLine {
-    pub(crate) line: u64,
-    pub(crate) digits: u64,
-    pub(crate) decimals: u32,
+pub(crate) struct Pair {
     pub(crate) from: u16,
     pub(crate) to: u16,
 }
@@ -27,10 +27,10 @@ struct StatesWord<'a> {
 }
 
 // The transition that the line writes between two of n states, or what is wrong with the line.
-pub(crate) fn read_entry(line: Line<'_>, n: u32) -> Result<EntryLine, FileWhat>
-    requires { n ≤ 65536 }
-    ensures entry { IfOk result (λ e. IsEntryLine n (row_of_line line.entry) e) }
-    ensures fault { IfErr result (λ what. FailsAnyway n (row_of_line line.entry) what) }
+pub(crate) fn read_entry(line: Line<'_>, n: u32) -> Result<EntryLine<Pair>, FileWhat>
+    requires { n ≤ MOST_STATES }
+    ensures entry { IfOk result (IsEntryLine (transition_lines n) pair_of (row_of_line line.entry)) }
+    ensures fault { IfErr result (FailsAnyway (transition_lines n) (row_of_line line.entry)) }
 {
     let states = read_states(line, n)?;
     match read(states.rate) {
@@ -38,8 +38,10 @@ pub(crate) fn read_entry(line: Line<'_>, n: u32) -> Result<EntryLine, FileWhat>
             line: line.number,
             digits: rate.c,
             decimals: rate.x,
-            from: (states.from - 1) as u16,
-            to: (states.to - 1) as u16,
+            key: Pair {
+                from: (states.from - 1) as u16,
+                to: (states.to - 1) as u16,
+            },
         }),
         Err(fault) => Err(FileWhat::Number(fault)),
     }
@@ -47,9 +49,9 @@ pub(crate) fn read_entry(line: Line<'_>, n: u32) -> Result<EntryLine, FileWhat>
 
 // The states of a line of three words, and the third word; or what is wrong with them.
 fn read_states<'a>(line: Line<'a>, n: u32) -> Result<StatesWord<'a>, FileWhat>
-    requires { n ≤ 65536 }
-    ensures states { IfOk result (λ s. WritesStates n (row_of_line line.entry) s) }
-    ensures fault { IfErr result (λ what. FailsAnyway n (row_of_line line.entry) what) }
+    ensures states { IfOk result
+        (λ s. HasKey (transition_lines n) (row_of_line line.entry) (record { from = s.from; to = s.to }) s.rate.now) }
+    ensures fault { IfErr result (FailsAnyway (transition_lines n) (row_of_line line.entry)) }
 {
     let Some((from, to, rate)) = three_words(line.bytes) else {
         return Err(FileWhat::Word);

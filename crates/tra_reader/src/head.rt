@@ -1,16 +1,15 @@
 // The two lines that begin the file.
-ghost use Rattle.std.specs.Prelude.{◌≡◌, ◌^◌, ◌<◌, ℕ, IfOk, IfErr, MatchOption};
+ghost use Rattle.std.specs.Prelude.{◌^◌, ◌<◌, ℕ, IfOk, IfErr, MatchOption};
 ghost use Rattle.text_lines.specs.LinesOf.{end_line_of};
 ghost use Rattle.text_lines.specs.WordLines.{word_lines_in};
-ghost use Rattle.tra_reader.specs.Reading.{SaysCount, IsCountUpTo, IsNextCount, IsHead, IsFaultOf};
 ghost use Rattle.text_lines.specs.Items.{line_words};
-ghost use Rattle.tra_reader.specs.TraFault.{LacksCount};
+ghost use Rattle.text_lines.specs.Told.{IsToldBy};
+ghost use Rattle.tra_reader.specs.Head.{SaysCount};
+ghost use Rattle.tra_reader.specs.Reading.{IsCountUpTo, IsNextCount, IsHead};
+ghost use Rattle.tra_reader.specs.TraFault.{LacksCount, LinesHaveFault};
 
-use text_lines::{FileFault, FileWhat, LineIter, end_line, next_filled, two_words, whole};
-
-const MOST_STATES: u64 = 65_536;
-
-const MOST_TRANSITIONS: u64 = 1_000_000;
+use model_core::{MOST_STATES, MOST_TRANSITIONS};
+use text_lines::{FileWhat, LineIter, ReadFault, end_line, next_filled, two_words, whole};
 
 // How many states there are, and how many lines of transitions follow.
 #[derive(Clone, Copy)]
@@ -27,35 +26,29 @@ struct CountLine {
 }
 
 // What the first two of the lines say; the lines of transitions are left.
-pub(crate) fn read_head<'a>(bytes: &'a [u8], lines: &mut LineIter<'a>) -> Result<Head, FileFault>
+pub(crate) fn read_head<'a>(bytes: &'a [u8], lines: &mut LineIter<'a>) -> Result<Head, ReadFault>
     ensures head { IfOk result (λ head. IsHead (word_lines_in lines.old) head (word_lines_in lines.new)) }
-    ensures fault { IfErr result (λ at. IsFaultOf (word_lines_in lines.old) (end_line_of bytes.now) at) }
+    ensures fault { IfErr result (IsToldBy (LinesHaveFault (word_lines_in lines.old) (end_line_of bytes.now))) }
 {
-    let states = match next_count(bytes, lines, b"STATES", MOST_STATES) {
+    let most = u64::from(MOST_STATES);
+    let states = match next_count(bytes, lines, b"STATES", most) {
         Ok(states) => states,
-        Err(number) => return Err(at(number, FileWhat::Header)),
+        Err(number) => return Err(ReadFault::at(number, FileWhat::Header)),
     };
-    if states.count == 0 || states.count > MOST_STATES {
-        return Err(at(states.number, FileWhat::StatesRange));
+    if states.count == 0 || states.count > most {
+        return Err(ReadFault::at(states.number, FileWhat::StatesRange));
     }
     let transitions = match next_count(bytes, lines, b"TRANSITIONS", MOST_TRANSITIONS) {
         Ok(transitions) => transitions,
-        Err(number) => return Err(at(number, FileWhat::Header)),
+        Err(number) => return Err(ReadFault::at(number, FileWhat::Header)),
     };
     if transitions.count > MOST_TRANSITIONS {
-        return Err(at(transitions.number, FileWhat::TransitionsRange));
+        return Err(ReadFault::at(transitions.number, FileWhat::TransitionsRange));
     }
     Ok(Head {
         states: states.count as u32,
         transitions: transitions.count,
     })
-}
-
-// The fault at the line of this number.
-fn at(line: u64, what: FileWhat) -> FileFault
-    ensures { result ≡ record { line = line; what = what } }
-{
-    FileFault { line, what }
 }
 
 // The count that the first of the lines says after the keyword, or the line at which it is missing.

@@ -1,21 +1,25 @@
 // The whole file.
-ghost use Rattle.text_lines.specs.LinesOf.{end_line_of};
-ghost use Rattle.std.specs.Prelude.{◌≡◌, ◌⊎◌, ◌≤◌, length, All, IfOk, Ok, Err};
+ghost use Rattle.std.specs.Prelude.{◌≡◌, ◌≢◌, ◌⊎◌, ◌≤◌, length, All, AllPairs, IfOk, IfErr, MatchResult, Ok, Err};
 ghost use Rattle.model_core.specs.Files.{TraLists};
+ghost use Rattle.text_lines.specs.Entries.{keys_of};
+ghost use Rattle.text_lines.specs.EntryLines.{entries_of};
+ghost use Rattle.text_lines.specs.LinesOf.{end_line_of};
+ghost use Rattle.text_lines.specs.Told.{IsToldBy};
 ghost use Rattle.text_lines.specs.WordLines.{word_lines_of};
-ghost use Rattle.tra_reader.specs.Rates.{IsKept, IsChainOf, HasRateAtFault};
-ghost use Rattle.tra_reader.specs.Reading.{AreApart, IsBodyFault};
+ghost use Rattle.tra_reader.specs.Pairs.{pair_of};
+ghost use Rattle.tra_reader.specs.Rates.{IsKept, IsChainOf, HasRateFault};
+ghost use Rattle.tra_reader.specs.Reading.{IsWhole, IsBodyFault};
 ghost use Rattle.tra_reader.specs.TraFault.{TraFaultAt};
 ghost use Rattle.tra_reader.specs.TraText.{TraSays};
 
 use crate::body::{Body, Stop, read_body};
-use crate::entry::EntryLine;
+use crate::entry::Pair;
 use crate::head::read_head;
-use crate::rates::{first_past, rates_of, scale_of};
+use crate::rates::{first_large, rates_of};
 use crate::repeats::first_repeated;
-use model_core::Tra;
-use std::alloc::{AllocError, Global};
-use text_lines::{FileFault, FileWhat, ReadFault, end_line, lines};
+use model_core::{MOST_STATES, MOST_TRANSITIONS, Tra};
+use std::alloc::Global;
+use text_lines::{EntryLine, FileFault, FileWhat, ReadFault, end_line, lines, scale_of};
 
 /// The chain for which the bytes of a `.tra` file stand, or what is wrong with the file.
 ///
@@ -58,63 +62,46 @@ pub fn read_tra(alloc: Global, bytes: &[u8]) -> Result<Tra, ReadFault>
 // The chain of the lines, or the first of their faults.
 fn read_lines(alloc: Global, bytes: &[u8]) -> Result<Tra, ReadFault>
     ensures value { IfOk result (λ tra. TraSays bytes.now tra) }
-    ensures fault { (at : FileFault) → result ≡ Err (ReadFault.At at) → TraFaultAt bytes.now at.line at.what }
+    ensures fault { IfErr result (IsToldBy (TraFaultAt bytes.now)) }
 {
     let mut lines = lines(bytes);
-    let head = match read_head(bytes, &mut lines) {
-        Ok(head) => head,
-        Err(at) => return Err(ReadFault::At(at)),
-    };
+    let head = read_head(bytes, &mut lines)?;
     let room = (bytes.len() / 6 + 1).min(head.transitions as usize);
     let body = read_body(alloc, &mut lines, head, room)?;
-    if let Some(at) = body_fault(alloc, bytes, &body)? {
-        return Err(ReadFault::At(at));
-    }
+    check_body(alloc, bytes, &body)?;
     chain_of(alloc, &body.entries, head.states)
 }
 
-// What is wrong with the lines of transitions, the sums of their rates aside.
-fn body_fault(alloc: Global, bytes: &[u8], body: &Body) -> Result<Option<FileFault>, AllocError>
-    requires { length body.now.entries.items ≤ 1000000 }
-    ensures { IfOk result (λ found. IsBodyFault (word_lines_of bytes.now) (end_line_of bytes.now) body.now found) }
+// Nothing, or what is wrong with the lines of transitions, the sums of their rates aside.
+fn check_body(alloc: Global, bytes: &[u8], body: &Body) -> Result<(), ReadFault>
+    requires { length body.now.entries.items ≤ MOST_TRANSITIONS }
+    ensures { MatchResult result (λ _. IsWhole body.now)
+        (IsToldBy (IsBodyFault (word_lines_of bytes.now) (end_line_of bytes.now) body.now)) }
 {
     let place = first_repeated(alloc, &body.entries)?;
     if place < body.entries.len() {
-        return Ok(Some(FileFault {
-            line: body.entries[place].line,
-            what: FileWhat::Repeated,
-        }));
+        return Err(ReadFault::at(body.entries[place].line, FileWhat::Repeated));
     }
-    Ok(match body.stop {
-        Stop::AllRead => None,
-        Stop::Missing => Some(FileFault {
-            line: end_line(bytes),
-            what: FileWhat::Count,
-        }),
-        Stop::Further(line) => Some(FileFault {
-            line,
-            what: FileWhat::Count,
-        }),
-        Stop::Failing(at) => Some(at),
-    })
+    match body.stop {
+        Stop::AllRead => Ok(()),
+        Stop::Missing => Err(ReadFault::at(end_line(bytes), FileWhat::Count)),
+        Stop::Further(line) => Err(ReadFault::at(line, FileWhat::Count)),
+        Stop::Failing(line, what) => Err(ReadFault::at(line, what)),
+    }
 }
 
 // The chain of these entries, or the first line at which the rates out of its state add up to too much.
-fn chain_of(alloc: Global, entries: &[EntryLine], n: u32) -> Result<Tra, ReadFault>
+fn chain_of(alloc: Global, entries: &[EntryLine<Pair>], n: u32) -> Result<Tra, ReadFault>
     requires some { 1 ≤ n }
-    requires few { n ≤ 65536 }
+    requires few { n ≤ MOST_STATES }
     requires kept { All (IsKept n) entries.now }
-    requires once { AreApart entries.now }
+    requires once { AllPairs ◌≢◌ (keys_of (entries_of pair_of entries.now)) }
     ensures value { IfOk result (λ tra. IsChainOf n entries.now tra) }
-    ensures fault { (at : FileFault) → result ≡ Err (ReadFault.At at) → HasRateAtFault entries.now at }
+    ensures fault { IfErr result (IsToldBy (HasRateFault entries.now)) }
 {
     let scale = scale_of(entries);
-    let past = first_past(alloc, entries, n, scale)?;
-    if past < entries.len() {
-        return Err(ReadFault::At(FileFault {
-            line: entries[past].line,
-            what: FileWhat::RateRange,
-        }));
+    if let Some(place) = first_large(alloc, entries, n, scale)? {
+        return Err(ReadFault::at(entries[place].line, FileWhat::RateRange));
     }
     let rates = rates_of(alloc, entries, scale)?;
     Ok(Tra::new(n, scale, rates))

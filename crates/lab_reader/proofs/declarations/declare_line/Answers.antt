@@ -35,4 +35,4 @@ returns-in-Some-name_fault c =
     let left = bytes_of c.next.new.self in
     let h : HasTaken c.args.names.now.items words now (word ∷ left) = subst (HasTaken c.args.names.now.items words now) (ap bytes_of c.in-Some.ensures.steps) c.loop-word.invariant in
     let fails : NameFailsBy now word c.in-Some-name_fault.what = subst (λ z. NameFailsBy z word c.in-Some-name_fault.what) c.deref.ensures.value c.in-Some-name_fault.ensures in
-    (refl, taken_fails c.args.names.now.items words now left word c.in-Some-name_fault.what h fails)
+    rw c.at.ensures (refl, taken_fails c.args.names.now.items words now left word c.in-Some-name_fault.what h fails)

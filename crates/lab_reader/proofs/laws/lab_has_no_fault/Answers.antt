@@ -1,7 +1,8 @@
-use Rattle.text_lines.specs.LinesOf.{end_line_of}
-use Rattle.text_lines.specs.WordLines.{word_lines_of}
-use Rattle.lab_reader.proofs.Readings.{no_fault}
+use Rattle.text_lines.proofs.FileReadings.{not_both}
+use Rattle.lab_reader.specs.LabFault.{LabFaultAt}
+use Rattle.lab_reader.specs.LabText.{LabSays}
+use Rattle.lab_reader.proofs.Readings.{lab_reading}
 use Rattle.lab_reader.proofs.laws.lab_has_no_fault.Goals as goal
 
 pub returns : goal.returns
-returns c = λ text n lab k a h i. no_fault n (word_lines_of text) (end_line_of text) lab k a h i
+returns c = λ n text. not_both (LabSays text n) (LabFaultAt text n) (lab_reading text n)

@@ -1,6 +1,8 @@
-use Rattle.text_lines.specs.WordLines.{word_lines_of}
-use Rattle.lab_reader.proofs.Readings.{one_lab}
+use Rattle.text_lines.proofs.FileReadings.{one_value}
+use Rattle.lab_reader.specs.LabFault.{LabFaultAt}
+use Rattle.lab_reader.specs.LabText.{LabSays}
+use Rattle.lab_reader.proofs.Readings.{lab_reading}
 use Rattle.lab_reader.proofs.laws.lab_is_one.Goals as goal
 
 pub returns : goal.returns
-returns c = λ text n a b h k. one_lab n (word_lines_of text) a b h k
+returns c = λ n text. one_value (LabSays text n) (LabFaultAt text n) (lab_reading text n)

@@ -1,6 +1,8 @@
-use Rattle.text_lines.specs.WordLines.{word_lines_of}
-use Rattle.rew_reader.proofs.Readings.{one_fault}
+use Rattle.text_lines.proofs.FileReadings.{one_fault}
+use Rattle.rew_reader.specs.RewFault.{RewFaultAt}
+use Rattle.rew_reader.specs.RewText.{RewSays}
+use Rattle.rew_reader.proofs.Readings.{rew_reading}
 use Rattle.rew_reader.proofs.laws.rew_fault_is_one.Goals as goal
 
 pub returns : goal.returns
-returns c = λ text n k l a b h i. one_fault n (word_lines_of text) k l a b h i
+returns c = λ n text. one_fault (RewSays text n) (RewFaultAt text n) (rew_reading text n)

@@ -1,6 +1,8 @@
-use Rattle.text_lines.specs.WordLines.{word_lines_of}
-use Rattle.rew_reader.proofs.Readings.{one_rew}
+use Rattle.text_lines.proofs.FileReadings.{one_value}
+use Rattle.rew_reader.specs.RewFault.{RewFaultAt}
+use Rattle.rew_reader.specs.RewText.{RewSays}
+use Rattle.rew_reader.proofs.Readings.{rew_reading}
 use Rattle.rew_reader.proofs.laws.rew_is_one.Goals as goal
 
 pub returns : goal.returns
-returns c = λ text n a b h k. one_rew n (word_lines_of text) a b h k
+returns c = λ n text. one_value (RewSays text n) (RewFaultAt text n) (rew_reading text n)

@@ -1,5 +1,5 @@
 use Rattle.std.proofs.Common.{take}
-use Rattle.rew_reader.proofs.RewardLemmas.{AreRewards}
+use Rattle.rew_reader.proofs.RewardSums.{AreRewards}
 use Rattle.rew_reader.proofs.rewards.rewards_of.Given as goal
 
 abbrev pub invariant-loop-entry : goal.invariant-loop-entry

@@ -1,6 +1,8 @@
-use Rattle.text_lines.specs.WordLines.{word_lines_of}
-use Rattle.tra_reader.proofs.Readings.{one_tra}
+use Rattle.text_lines.proofs.FileReadings.{one_value}
+use Rattle.tra_reader.specs.TraFault.{TraFaultAt}
+use Rattle.tra_reader.specs.TraText.{TraSays}
+use Rattle.tra_reader.proofs.Readings.{tra_reading}
 use Rattle.tra_reader.proofs.laws.tra_is_one.Goals as goal
 
 pub returns : goal.returns
-returns c = λ text a b h k. one_tra (word_lines_of text) a b h k
+returns c = λ text. one_value (TraSays text) (TraFaultAt text) (tra_reading text)
