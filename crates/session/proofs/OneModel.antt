@@ -97,7 +97,7 @@ module _ (pairs : List Pair) where
     one_fault_at LabFile TraFile k l v w p q = absurd (no_tra_fault names.tra p.tra l w p.takes_tra q)
     one_fault_at LabFile LabFile k l v w p q =
         let same =
-        file.one_fault pairs names.lab (λ text a. LabSays text q.tra.n a) (λ text. LabFaultAt text q.tra.n) (file.lab_reading q.tra.n) k l v w
+        file.one_fault pairs names.lab (λ text a. LabSays text q.tra.n a) (λ text. LabFaultAt text q.tra.n) (λ text. lab_reading text q.tra.n) k l v w
         (subst (λ t. IsLabFaulty t.n names.lab (Some pairs) k v) (one_tra names.tra p.tra q.tra p.takes_tra q.takes_tra) p.faulty) q.faulty in
         (refl, same.0, same.1)
     one_fault_at LabFile RewFile k l v w p q = absurd (not_both_files k l v w p q)
