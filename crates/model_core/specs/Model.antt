@@ -23,6 +23,21 @@ model_chain model = chain_of model.n model.rates
 abbrev pub has_label : List ℕ → ℕ → ℕ → Bool
 has_label marks label s = bit_at (slice_index marks s) label == 1
 
+-- a chain with labels, as formulas see it: the number of decimals of its rates, the names of its labels, and whether a state has a label
+pub record LabelledChain : Type 0 where
+  pub chain : Chain
+  pub rate_decimals : ℕ
+  pub names : List (List ℕ)
+  pub has : ℕ → ℕ → Bool
+
+-- the labelled chain that a model holds
+abbrev pub labelled_chain : ModelLists → LabelledChain
+labelled_chain model = record { chain = model_chain model; rate_decimals = model.scale; names = model.names; has = has_label model.marks }
+
+-- the labelled chain for which the files of the chain and of the labels stand
+abbrev pub files_chain : TraLists → LabLists → LabelledChain
+files_chain tra lab = record { chain = chain_of tra.n tra.rates; rate_decimals = tra.scale; names = lab.names; has = has_label lab.marks }
+
 -- what holds of the files, one mark and perhaps one reward for each state, and the transitions in order
 pub record IsModel (model : ModelLists) : Type 0 where
   pub tra : IsTra (record { n = model.n; scale = model.scale; rates = model.rates })

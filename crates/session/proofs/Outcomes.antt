@@ -5,7 +5,8 @@ use Rattle.std.proofs.lemmas.Bool.{false≢true}
 use Rattle.outside.specs.Shelf.{Pair}
 use Rattle.model_core.specs.Files.{TraLists, LabLists}
 use Rattle.session.specs.Command.{FileNames}
-use Rattle.session.specs.Outcome.{Outcome, Usage, Faulty, NotBuilt, Refused, Answered, IsFileFaulty, TakesLab, TakesModel, TakesFormula, IsOtherInput, IsNotBuilt, IsAnswered, IsRefused, IsOutcomeOf, name_at, tra_chain, lab_goal}
+use Rattle.session.specs.Outcome.{Outcome, Usage, Faulty, NotBuilt, Refused, Answered, IsFileFaulty, TakesLab, TakesModel, TakesFormula, IsOtherInput, IsNotBuilt, IsAnswered, IsRefused, IsOutcomeOf, model_of, name_at}
+use Rattle.model_core.specs.Model.{files_chain}
 use Rattle.session.specs.FormulaAnswer.{FormulaAnswer, Answers, Refuses, formula_answer}
 use Rattle.session.specs.PlainFormula.{formula_text, IsPlainFormula}
 use Rattle.session.specs.declared.plain_formula.PlainFormula.{PlainFormula}
@@ -78,13 +79,13 @@ module _ (pairs : List Pair) (left : List ℕ) (u v : Option (List ℕ)) (names 
 
   -- what it gives, and its text
   answer_to : (now : Option (List ℕ)) → Reads now → FormulaAnswer
-  answer_to now r = formula_answer (tra_chain r.model.tra) r.model.tra.scale (lab_goal r.model.lab r.label) r.formula
+  answer_to now r = formula_answer (model_of r.model) r.label r.formula
 
   text_of : (now : Option (List ℕ)) → Reads now → List ℕ
   text_of now r = formula_text (name_at r.model.lab.names r.label) r.formula
 
   answer_over : TraLists → LabLists → ℕ → PlainFormula → FormulaAnswer
-  answer_over tra lab label formula = formula_answer (tra_chain tra) tra.scale (lab_goal lab label) formula
+  answer_over tra lab label formula = formula_answer (files_chain tra lab) label formula
 
   -- the names that a file of labels declares are all different
   distinct_names : (n : ℕ) (name : List ℕ) (lab : LabLists) → TakesLab n name (Some pairs) lab → AllPairs ◌≢◌ lab.names
@@ -116,10 +117,10 @@ module _ (pairs : List Pair) (left : List ℕ) (u v : Option (List ℕ)) (names 
       ∙ ap (formula_text (name_at q.model.lab.names q.label)) one.formula
 
   of_answer : (now : Option (List ℕ)) (f : List ℕ) (k : Option ℕ) (xs : List StateAnswer) → IsAnswered names (Some pairs) (Some left) now f k xs → Reads now
-  of_answer now f k xs p = record { model = p.model; label = p.label; formula = p.formula; takes = p.takes_formula }
+  of_answer now f k xs p = record { model = p.model; label = p.answers.label; formula = p.answers.formula; takes = p.answers.takes }
 
   of_refusal : (now : Option (List ℕ)) (r : Refusal) → IsRefused names (Some pairs) (Some left) now r → Reads now
-  of_refusal now r p = record { model = p.model; label = p.label; formula = p.formula; takes = p.takes_formula }
+  of_refusal now r p = record { model = p.model; label = p.refuses.label; formula = p.refuses.formula; takes = p.refuses.takes }
 
   reads_not_part : (part : Part) → Reads u → IsNotBuilt names (Some pairs) (Some left) v part → ⊥
   reads_not_part Formula p q =
@@ -146,21 +147,21 @@ module _ (pairs : List Pair) (left : List ℕ) (u v : Option (List ℕ)) (names 
       → IsRefused names (Some pairs) (Some left) v r → ⊥
   unfolding answer_to of_answer of_refusal
   answer_not_refusal f k xs r p q =
-      answered_or_refused k xs r (sym p.are_states ∙ same_answer (of_answer u f k xs p) (of_refusal v r q) ∙ q.is_refusal)
+      answered_or_refused k xs r (sym p.answers.are_states ∙ same_answer (of_answer u f k xs p) (of_refusal v r q) ∙ q.refuses.is_refusal)
 
   one_answer : (f g : List ℕ) (k m : Option ℕ) (xs ys : List StateAnswer) → IsAnswered names (Some pairs) (Some left) u f k xs
       → IsAnswered names (Some pairs) (Some left) v g m ys → Answers k xs ≡ Answers m ys
   unfolding answer_to of_answer
-  one_answer f g k m xs ys p q = sym p.are_states ∙ same_answer (of_answer u f k xs p) (of_answer v g m ys q) ∙ q.are_states
+  one_answer f g k m xs ys p q = sym p.answers.are_states ∙ same_answer (of_answer u f k xs p) (of_answer v g m ys q) ∙ q.answers.are_states
 
   one_text : (f g : List ℕ) (k m : Option ℕ) (xs ys : List StateAnswer) → IsAnswered names (Some pairs) (Some left) u f k xs
       → IsAnswered names (Some pairs) (Some left) v g m ys → f ≡ g
   unfolding text_of of_answer
-  one_text f g k m xs ys p q = p.is_text ∙ same_text (of_answer u f k xs p) (of_answer v g m ys q) ∙ sym q.is_text
+  one_text f g k m xs ys p q = p.answers.is_text ∙ same_text (of_answer u f k xs p) (of_answer v g m ys q) ∙ sym q.answers.is_text
 
   one_refusal : (r t : Refusal) → IsRefused names (Some pairs) (Some left) u r → IsRefused names (Some pairs) (Some left) v t → r ≡ t
   unfolding answer_to of_refusal
-  one_refusal r t p q = same_refusal r t (sym p.is_refusal ∙ same_answer (of_refusal u r p) (of_refusal v t q) ∙ q.is_refusal)
+  one_refusal r t p q = same_refusal r t (sym p.refuses.is_refusal ∙ same_answer (of_refusal u r p) (of_refusal v t q) ∙ q.refuses.is_refusal)
 
   same_answered : (f g : List ℕ) (k m : Option ℕ) (xs ys : List StateAnswer) → IsAnswered names (Some pairs) (Some left) u f k xs
       → IsAnswered names (Some pairs) (Some left) v g m ys → Answered f k xs ≡ Answered g m ys

@@ -12,20 +12,19 @@ use Rattle.ctmc_semantics.specs.Chain.{Chain}
 use Rattle.ctmc_semantics.specs.Fraction.{Fraction, decimal_fraction}
 use Rattle.ctmc_semantics.specs.Next.{next_probability}
 use Rattle.ctmc_semantics.specs.Threshold.{Comparison}
-use Rattle.ctmc_semantics.specs.Uniformised.{time_load}
 use Rattle.ctmc_semantics.specs.Horizon.{horizon}
 use Rattle.ctmc_semantics.proofs.Powers.{power_le}
 use Rattle.model_core.specs.declared.rate.Rate.{Rate}
-use Rattle.model_core.specs.Model.{ModelLists, has_label, model_chain}
+use Rattle.model_core.specs.Model.{ModelLists, LabelledChain, has_label, model_chain, labelled_chain}
 use Rattle.model_core.specs.Transitions.{chain_of}
 use Rattle.std.specs.List.Sorted.{IsPermutation}
 use Rattle.session.specs.Command.{FileNames, names_of}
 use Rattle.session.specs.FormulaAnswer.{FormulaAnswer, Answers, unless_refused, formula_answer, formula_refusal, formula_states}
 use Rattle.session.specs.NextAnswer.{next_answer, next_answers}
 use Rattle.session.specs.UntilAnswer.{until_answers, state_words, words_answer}
-use Rattle.session.specs.ExactAnswer.{IsExactNext, IsExactUntil, IsExactAnswer, formula_horizon, until_bits, until_of}
-use Rattle.session.specs.Outcome.{Outcome, Usage, Faulty, NotBuilt, Refused, Answered, TakesFormula, IsOtherInput, IsOutcomeOf, name_at, tra_chain, lab_goal, outcome_text, outcome_status}
-use Rattle.session.specs.Reading.{IsModelOf, IsFormulaOutcome, IsAnswerTo, AsksForReply, model_goal, outcome_of, names_before}
+use Rattle.session.specs.ExactAnswer.{IsExactNext, IsExactUntil, IsExactAnswer, formula_horizon, until_bits, until_load, until_of}
+use Rattle.session.specs.Outcome.{Outcome, Usage, Faulty, NotBuilt, Refused, Answered, TakesFormula, AnswersFormula, RefusesFormula, IsOtherInput, IsOutcomeOf, model_of, name_at, outcome_text, outcome_status}
+use Rattle.session.specs.Reading.{IsModelOf, IsFormulaOutcome, IsAnswerTo, AsksForReply, outcome_of, names_before}
 use Rattle.session.specs.PlainFormula.{formula_text, comparison_of}
 use Rattle.session.specs.Report.{answer_text}
 use Rattle.session.specs.Serve.{AnswersExactly, AsksFor, IsLostOr, Says, names_through}
@@ -58,36 +57,24 @@ same_chain : (n : ℕ) (xs ys : List Rate) → IsPermutation xs ys → chain_of 
 same_chain n xs ys h = search (rules, sum_by-IsPermutation)
 
 module _ (names : FileNames) (files : Option (List Pair)) (before now : Option (List ℕ)) (model : ModelLists) (is : IsModelOf names files model) where
-  chain_is : model_chain model ≡ tra_chain is.takes.tra
+  chain_is : model_chain model ≡ chain_of is.takes.tra.n is.takes.tra.rates
   chain_is = ap (λ n. chain_of n model.rates) is.built.n ∙ sym (same_chain is.takes.tra.n is.takes.tra.rates model.rates is.built.rates)
 
-  -- the formula is answered over the files as over the model
-  answer_is : (label : ℕ) (f : PlainFormula) → formula_answer (model_chain model) model.scale (model_goal model label) f
-      ≡ formula_answer (tra_chain is.takes.tra) is.takes.tra.scale (lab_goal is.takes.lab label) f
-  answer_is label f =
-      ap (λ c. formula_answer c model.scale (model_goal model label) f) chain_is
-      ∙ ap (λ d. formula_answer (tra_chain is.takes.tra) d (model_goal model label) f) is.built.scale
-      ∙ ap (λ m. formula_answer (tra_chain is.takes.tra) is.takes.tra.scale (has_label m label) f) is.built.marks
+  -- the model holds the labelled chain of the files
+  labelled_is : labelled_chain model ≡ model_of is.takes
+  labelled_is =
+      ap (λ c. record { chain = c; rate_decimals = model.scale; names = model.names; has = has_label model.marks }) chain_is
+      ∙ ap (λ d. record { chain = chain_of is.takes.tra.n is.takes.tra.rates; rate_decimals = d; names = model.names; has = has_label model.marks }) is.built.scale
+      ∙ ap (λ n. record { chain = chain_of is.takes.tra.n is.takes.tra.rates; rate_decimals = is.takes.tra.scale; names = n; has = has_label model.marks }) is.built.names
+      ∙ ap (λ m. record { chain = chain_of is.takes.tra.n is.takes.tra.rates; rate_decimals = is.takes.tra.scale; names = is.takes.lab.names; has = has_label m }) is.built.marks
 
   from_formula : (outcome : Outcome) → IsFormulaOutcome model before now outcome → IsOutcomeOf (Some names) files before now outcome
   from_formula Usage h = absurd h
   from_formula (Faulty fault) h = absurd h
   from_formula (NotBuilt Formula) h = record { model = is.takes; other = subst (λ n. IsOtherInput n before now) is.built.names h }
-  from_formula (Refused refusal) h = record {
-    model = is.takes;
-    label = h.label;
-    formula = h.formula;
-    takes_formula = subst (λ n. TakesFormula n before now h.label h.formula) is.built.names h.takes;
-    is_refusal = sym (answer_is h.label h.formula) ∙ h.is_refusal;
-  }
-  from_formula (Answered text horizon states) h = record {
-    model = is.takes;
-    label = h.label;
-    formula = h.formula;
-    takes_formula = subst (λ n. TakesFormula n before now h.label h.formula) is.built.names h.takes;
-    is_text = h.is_text ∙ ap (λ n. formula_text (name_at n h.label) h.formula) is.built.names;
-    are_states = sym (answer_is h.label h.formula) ∙ h.are_states;
-  }
+  from_formula (Refused refusal) h = record { model = is.takes; refuses = subst (λ o. RefusesFormula o before now refusal) labelled_is h }
+  from_formula (Answered text horizon states) h =
+      record { model = is.takes; answers = subst (λ o. AnswersFormula o before now text horizon states) labelled_is h }
 
   -- after the formula all names were asked for
   all_names : (outcome : Outcome) → IsFormulaOutcome model before now outcome → names_before outcome (Some names) ≡ names_of (Some names)
@@ -157,9 +144,9 @@ until_exact_at chain load goal comparison q s states positive threshold few e l 
     (until_exact comparison chain load goal q s positive threshold few l)
 
 -- the states of an answered formula are as many as the chain's, and each is exact
-record AreExact (chain : Chain) (rate_decimals : ℕ) (goal : ℕ → Bool) (formula : PlainFormula) (states : List StateAnswer) : Type 0 where
-  each_state : length states ≡ chain.states
-  exact : (s : ℕ) → s < chain.states → IsSomeAnd (slice_get states s) (IsExactAnswer chain rate_decimals goal formula s)
+record AreExact (over : LabelledChain) (label : ℕ) (formula : PlainFormula) (states : List StateAnswer) : Type 0 where
+  each_state : length states ≡ over.chain.states
+  exact : (s : ℕ) → s < over.chain.states → IsSomeAnd (slice_get states s) (IsExactAnswer over label formula s)
 
 -- an answer is given where there is no refusal, and is the one that is due
 record IsDue (refusal : Option Refusal) (due : FormulaAnswer) (horizon : Option ℕ) (states : List StateAnswer) : Type 0 where
@@ -186,32 +173,30 @@ few_layers last states e = by_test (nat_lt most_jumps last) refl e
 power_of_ten : (k : ℕ) → 0 < 10 ^ k
 power_of_ten k = omega (arith, power_le 10 0 k (omega arith) (omega arith))
 
-module _ (chain : Chain) (rate_decimals : ℕ) (goal : ℕ → Bool) (horizon : Option ℕ) (states : List StateAnswer) where
-  horizon_printed : (formula : PlainFormula) → formula_answer chain rate_decimals goal formula ≡ Answers horizon states
-      → horizon ≡ formula_horizon chain rate_decimals formula
+module _ (over : LabelledChain) (label : ℕ) (horizon : Option ℕ) (states : List StateAnswer) where
+  horizon_printed : (formula : PlainFormula) → formula_answer over label formula ≡ Answers horizon states → horizon ≡ formula_horizon over formula
   horizon_printed formula e =
-      let due = is_due (formula_refusal chain rate_decimals formula) _ horizon states e in
-      sym (same_horizon (formula_horizon chain rate_decimals formula) horizon (formula_states chain rate_decimals goal formula) states due.is)
+      let due = is_due (formula_refusal over formula) _ horizon states e in
+      sym (same_horizon (formula_horizon over formula) horizon (formula_states over label formula) states due.is)
 
-  answers_exact : (formula : PlainFormula) → formula_answer chain rate_decimals goal formula ≡ Answers horizon states
-      → AreExact chain rate_decimals goal formula states
+  answers_exact : (formula : PlainFormula) → formula_answer over label formula ≡ Answers horizon states → AreExact over label formula states
   answers_exact (Next op threshold) e =
-      let is : states ≡ next_answers chain goal (comparison_of op) (decimal_fraction threshold.c threshold.x) =
+      let is : states ≡ next_answers over.chain (over.has label) (comparison_of op) (decimal_fraction threshold.c threshold.x) =
       sym (same_answers None horizon _ states e) in
       record {
-        each_state = ap length is ∙ length-map-range_with_len _ 0 chain.states;
-        exact = λ s l. next_exact_at chain goal (comparison_of op) (decimal_fraction threshold.c threshold.x) s states is l;
+        each_state = ap length is ∙ length-map-range_with_len _ 0 over.chain.states;
+        exact = λ s l. next_exact_at over.chain (over.has label) (comparison_of op) (decimal_fraction threshold.c threshold.x) s states is l;
       }
   answers_exact (Until op threshold time) e =
-      let load = time_load chain rate_decimals time.c time.x in
-      let due = is_due (until_refusal chain rate_decimals time) _ horizon states e in
-      let is : states ≡ until_answers chain load goal (comparison_of op) (decimal_fraction threshold.c threshold.x) =
+      let load = until_load over time in
+      let due = is_due (until_refusal over.chain over.rate_decimals time) _ horizon states e in
+      let is : states ≡ until_answers over.chain load (over.has label) (comparison_of op) (decimal_fraction threshold.c threshold.x) =
       sym (same_answers _ horizon _ states due.is) in
       record {
-        each_state = ap length is ∙ length-map-range_with_len _ 0 chain.states;
+        each_state = ap length is ∙ length-map-range_with_len _ 0 over.chain.states;
         exact = λ s l.
-            until_exact_at chain load goal (comparison_of op) (decimal_fraction threshold.c threshold.x) s states (power_of_ten (rate_decimals + time.x))
-            (power_of_ten threshold.x) (few_layers _ chain.states due.unrefused) is l;
+            until_exact_at over.chain load (over.has label) (comparison_of op) (decimal_fraction threshold.c threshold.x) s states
+            (power_of_ten (over.rate_decimals + time.x)) (power_of_ten threshold.x) (few_layers _ over.chain.states due.unrefused) is l;
       }
 
 pub answered_exactly : (command : Option FileNames) (files : Option (List Pair)) (left_before left_now before now : Option (List ℕ)) (outcome : Outcome)
@@ -223,17 +208,19 @@ answered_exactly command files left_before left_now before now (NotBuilt part) d
 answered_exactly command files left_before left_now before now (Refused refusal) done h printed = cc
 answered_exactly None files left_before left_now before now (Answered text horizon states) done h printed = absurd h
 answered_exactly (Some names) files left_before left_now before now (Answered text horizon states) done h printed =
-    let are = answers_exact (tra_chain h.model.tra) h.model.tra.scale (lab_goal h.model.lab h.label) horizon states h.formula h.are_states in
+    let a = h.answers in
+    let over = model_of h.model in
+    let are = answers_exact over a.label horizon states a.formula a.are_states in
     record {
       model = h.model;
-      label = h.label;
-      formula = h.formula;
-      takes_formula = h.takes_formula;
+      label = a.label;
+      formula = a.formula;
+      takes_formula = a.takes;
       states = states;
       printed =
-          subst (λ k. Appends before now (answer_text (formula_text (name_at h.model.lab.names h.label) h.formula) k states))
-          (horizon_printed (tra_chain h.model.tra) h.model.tra.scale (lab_goal h.model.lab h.label) horizon states h.formula h.are_states)
-          (subst (λ f. Appends before now (answer_text f horizon states)) h.is_text printed);
+          subst (λ k. Appends before now (answer_text (formula_text (name_at over.names a.label) a.formula) k states))
+          (horizon_printed over a.label horizon states a.formula a.are_states)
+          (subst (λ f. Appends before now (answer_text f horizon states)) a.is_text printed);
       each_state = are.each_state;
       exact = are.exact;
     }

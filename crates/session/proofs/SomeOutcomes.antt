@@ -13,7 +13,7 @@ use Rattle.tra_reader.specs.TraText.{TraSays}
 use Rattle.text_lines.specs.declared.fault.FileWhat.{FileWhat}
 use Rattle.session.specs.Command.{FileNames}
 use Rattle.session.specs.FormulaAnswer.{FormulaAnswer, Answers, Refuses, formula_answer}
-use Rattle.session.specs.Outcome.{Outcome, Usage, Faulty, NotBuilt, Refused, Answered, IsOutcomeOf, TakesTra, TakesLab, TakesRew, TakesModel, TakesFormula, IsLabFaulty, IsRewFaulty, IsTraFaulty, formulas_limit, name_at, tra_chain, lab_goal}
+use Rattle.session.specs.Outcome.{Outcome, Usage, Faulty, NotBuilt, Refused, Answered, IsOutcomeOf, TakesTra, TakesLab, TakesRew, TakesModel, TakesFormula, IsLabFaulty, IsRewFaulty, IsTraFaulty, formulas_limit, model_of, name_at}
 use Rattle.session.specs.PlainFormula.{formula_text}
 use Rattle.session.specs.Serve.{AreThere}
 use Rattle.session.specs.declared.plain_formula.PlainFormula.{PlainFormula}
@@ -50,16 +50,16 @@ module _ (pairs : List Pair) (left : List ℕ) (names : FileNames) where
   module _ (model : TakesModel names (Some pairs)) where
     -- what the formula gives
     answered : (label : ℕ) (f : PlainFormula) → TakesFormula model.lab.names (Some left) (Some []) label f → (answer : FormulaAnswer)
-        → formula_answer (tra_chain model.tra) model.tra.scale (lab_goal model.lab label) f ≡ answer → Found
+        → formula_answer (model_of model) label f ≡ answer → Found
     answered label f takes (Answers horizon states) e = record {
       outcome = Answered (formula_text (name_at model.lab.names label) f) horizon states;
       now = Some [];
-      is = record { model = model; label = label; formula = f; takes_formula = takes; is_text = refl; are_states = e };
+      is = record { model = model; answers = record { label = label; formula = f; takes = takes; is_text = refl; are_states = e } };
     }
     answered label f takes (Refuses refusal) e = record {
       outcome = Refused refusal;
       now = Some [];
-      is = record { model = model; label = label; formula = f; takes_formula = takes; is_refusal = e };
+      is = record { model = model; refuses = record { label = label; formula = f; takes = takes; is_refusal = e } };
     }
 
     whole : length left ≤ formulas_limit → NamedBelow model.lab.names left (length model.lab.names)
@@ -67,7 +67,7 @@ module _ (pairs : List Pair) (left : List ℕ) (names : FileNames) where
     whole few (inl n) =
         answered n.label n.formula
         (record { bytes = left; taken = sym (append-nil left); within = few; end = refl; declared = n.below; plain = n.is })
-        (formula_answer (tra_chain model.tra) model.tra.scale (lab_goal model.lab n.label) n.formula) refl
+        (formula_answer (model_of model) n.label n.formula) refl
     whole few (inr none) = record {
       outcome = NotBuilt Formula;
       now = Some [];

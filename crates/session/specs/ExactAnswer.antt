@@ -13,6 +13,8 @@ use Rattle.ctmc_semantics.specs.Uniformised.{time_load, uniformised}
 use Rattle.ctmc_semantics.specs.Value.{ValueMeets, ValueFails}
 use Rattle.ctmc_semantics.specs.Verdict.{BracketSatisfies, BracketRefutes}
 use Rattle.ctmc_semantics.specs.WordBracket.{WordBracket, word_bracket}
+use Rattle.decimal_text.specs.DecimalNumber.{DecimalNumber}
+use Rattle.model_core.specs.Model.{LabelledChain}
 use Rattle.session.specs.PlainFormula.{comparison_of}
 use Rattle.session.specs.declared.plain_formula.PlainFormula.{PlainFormula}
 use Rattle.session.specs.declared.plain_formula.PlainFormula.TheVariants.{Next, Until}
@@ -54,15 +56,20 @@ until_bits = 30
 abbrev pub until_of : Chain → Fraction → (ℕ → Bool) → ℕ → ℕ → Fraction
 until_of chain load goal s = until_average (uniformised chain) load every_state goal s
 
--- the number of jumps up to which an until is looked at, over a chain whose rates have so many decimals
-abbrev pub formula_horizon : Chain → ℕ → PlainFormula → Option ℕ
-formula_horizon chain rate_decimals (Next op threshold) = None
-formula_horizon chain rate_decimals (Until op threshold time) = Some (horizon (time_load chain rate_decimals time.c time.x) until_bits)
+-- the load of an until's time
+abbrev pub until_load : LabelledChain → DecimalNumber → Fraction
+until_load over time = time_load over.chain over.rate_decimals time.c time.x
 
--- the answer at a state is so by the exact meaning of the formula
-abbrev pub IsExactAnswer : Chain → ℕ → (ℕ → Bool) → PlainFormula → ℕ → StateAnswer → Type 0
-IsExactAnswer chain rate_decimals goal (Next op threshold) s answer =
-    IsExactNext (comparison_of op) (next_probability chain goal s) (decimal_fraction threshold.c threshold.x) answer
-IsExactAnswer chain rate_decimals goal (Until op threshold time) s answer =
-    let load = time_load chain rate_decimals time.c time.x in
-    IsExactUntil (comparison_of op) (horizon load until_bits) until_bits (until_of chain load goal s) (decimal_fraction threshold.c threshold.x) answer
+-- the number of jumps up to which an until is looked at
+abbrev pub formula_horizon : LabelledChain → PlainFormula → Option ℕ
+formula_horizon over (Next op threshold) = None
+formula_horizon over (Until op threshold time) = Some (horizon (until_load over time) until_bits)
+
+-- the answer at a state is so by the exact meaning of the formula over the label
+abbrev pub IsExactAnswer : LabelledChain → ℕ → PlainFormula → ℕ → StateAnswer → Type 0
+IsExactAnswer over label (Next op threshold) s answer =
+    IsExactNext (comparison_of op) (next_probability over.chain (over.has label) s) (decimal_fraction threshold.c threshold.x) answer
+IsExactAnswer over label (Until op threshold time) s answer =
+    let load = until_load over time in
+    IsExactUntil (comparison_of op) (horizon load until_bits) until_bits (until_of over.chain load (over.has label) s)
+    (decimal_fraction threshold.c threshold.x) answer

@@ -1,9 +1,8 @@
--- What is answered to a formula over a chain and the states that have the label.
-use Rattle.std.specs.Prelude.{ℕ, Bool, List, Option, Some, None}
-use Rattle.ctmc_semantics.specs.Chain.{Chain}
+-- What is computed of a formula over a labelled chain.
+use Rattle.std.specs.Prelude.{ℕ, List, Option, Some, None}
 use Rattle.ctmc_semantics.specs.Fraction.{decimal_fraction}
-use Rattle.ctmc_semantics.specs.Uniformised.{time_load}
-use Rattle.session.specs.ExactAnswer.{formula_horizon}
+use Rattle.model_core.specs.Model.{LabelledChain}
+use Rattle.session.specs.ExactAnswer.{formula_horizon, until_load}
 use Rattle.session.specs.NextAnswer.{next_answers}
 use Rattle.session.specs.PlainFormula.{comparison_of}
 use Rattle.session.specs.declared.plain_formula.PlainFormula.{PlainFormula}
@@ -24,17 +23,17 @@ unless_refused (Some refusal) answer = Refuses refusal
 unless_refused None answer = answer
 
 -- the answers at the states
-abbrev pub formula_states : Chain → ℕ → (ℕ → Bool) → PlainFormula → List StateAnswer
-formula_states chain rate_decimals goal (Next op threshold) = next_answers chain goal (comparison_of op) (decimal_fraction threshold.c threshold.x)
-formula_states chain rate_decimals goal (Until op threshold time) =
-    until_answers chain (time_load chain rate_decimals time.c time.x) goal (comparison_of op) (decimal_fraction threshold.c threshold.x)
+abbrev pub formula_states : LabelledChain → ℕ → PlainFormula → List StateAnswer
+formula_states over label (Next op threshold) = next_answers over.chain (over.has label) (comparison_of op) (decimal_fraction threshold.c threshold.x)
+formula_states over label (Until op threshold time) =
+    until_answers over.chain (until_load over time) (over.has label) (comparison_of op) (decimal_fraction threshold.c threshold.x)
 
 -- why a formula is refused, if it is
-abbrev pub formula_refusal : Chain → ℕ → PlainFormula → Option Refusal
-formula_refusal chain rate_decimals (Next op threshold) = None
-formula_refusal chain rate_decimals (Until op threshold time) = until_refusal chain rate_decimals time
+abbrev pub formula_refusal : LabelledChain → PlainFormula → Option Refusal
+formula_refusal over (Next op threshold) = None
+formula_refusal over (Until op threshold time) = until_refusal over.chain over.rate_decimals time
 
-abbrev pub formula_answer : Chain → ℕ → (ℕ → Bool) → PlainFormula → FormulaAnswer
-formula_answer chain rate_decimals goal formula =
-    unless_refused (formula_refusal chain rate_decimals formula)
-    (Answers (formula_horizon chain rate_decimals formula) (formula_states chain rate_decimals goal formula))
+-- what is computed of a formula over the label of this number
+abbrev pub formula_answer : LabelledChain → ℕ → PlainFormula → FormulaAnswer
+formula_answer over label formula =
+    unless_refused (formula_refusal over formula) (Answers (formula_horizon over formula) (formula_states over label formula))

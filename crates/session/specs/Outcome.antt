@@ -1,11 +1,9 @@
 -- What is answered to the words, the files and the formulas.
-use Rattle.std.specs.Prelude.{◌≡◌, ℕ, Bool, ◌+◌, ◌<◌, ◌≤◌, ◌⊎◌, List, [], ◌∷◌, ◌++◌, length, codes, Option, Some, None, IsNone, IsSomeAnd, slice_index_or}
+use Rattle.std.specs.Prelude.{◌≡◌, ℕ, ◌+◌, ◌<◌, ◌≤◌, ◌⊎◌, List, [], ◌∷◌, ◌++◌, length, codes, Option, Some, None, IsNone, IsSomeAnd, slice_index_or}
 use Rattle.std.specs.Io.KnownBytes.{Consumes, Keeps, IsAtEnd}
 use Rattle.outside.specs.Shelf.{Pair, IsFile, IsTooBig, file_limit}
-use Rattle.ctmc_semantics.specs.Chain.{Chain}
 use Rattle.model_core.specs.Files.{TraLists, LabLists, RewLists}
-use Rattle.model_core.specs.Model.{has_label}
-use Rattle.model_core.specs.Transitions.{chain_of}
+use Rattle.model_core.specs.Model.{LabelledChain, files_chain}
 use Rattle.session.specs.Command.{FileNames, command_of}
 use Rattle.session.specs.FormulaAnswer.{Answers, Refuses, formula_answer}
 use Rattle.session.specs.PlainFormula.{IsPlainFormula, formula_text}
@@ -146,30 +144,35 @@ pub record TakesTooMuch (before now : Option (List ℕ)) : Type 0 where
   pub taken : Consumes before now bytes
   pub long : length bytes ≡ formulas_limit + 1
 
--- the chain that the lists stand for
-abbrev pub tra_chain : TraLists → Chain
-tra_chain tra = chain_of tra.n tra.rates
-
--- the states that have the label
-abbrev pub lab_goal : LabLists → ℕ → ℕ → Bool
-lab_goal lab label = has_label lab.marks label
-
--- all was read, and these are the formula's text, its horizon and the answers at the states
-pub record IsAnswered (names : FileNames) (files : Option (List Pair)) (before now : Option (List ℕ)) (text : List ℕ) (horizon : Option ℕ) (states : List StateAnswer) : Type 0 where
-  pub model : TakesModel names files
+-- the formula was read over the chain's labels, and these are its text, its horizon and the answers at the states
+pub record AnswersFormula (over : LabelledChain) (before now : Option (List ℕ)) (text : List ℕ) (horizon : Option ℕ) (states : List StateAnswer) : Type 0 where
   pub label : ℕ
   pub formula : PlainFormula
-  pub takes_formula : TakesFormula model.lab.names before now label formula
-  pub is_text : text ≡ formula_text (name_at model.lab.names label) formula
-  pub are_states : formula_answer (tra_chain model.tra) model.tra.scale (lab_goal model.lab label) formula ≡ Answers horizon states
+  pub takes : TakesFormula over.names before now label formula
+  pub is_text : text ≡ formula_text (name_at over.names label) formula
+  pub are_states : formula_answer over label formula ≡ Answers horizon states
+
+-- the formula was read over the chain's labels, and this is why it is refused
+pub record RefusesFormula (over : LabelledChain) (before now : Option (List ℕ)) (refusal : Refusal) : Type 0 where
+  pub label : ℕ
+  pub formula : PlainFormula
+  pub takes : TakesFormula over.names before now label formula
+  pub is_refusal : formula_answer over label formula ≡ Refuses refusal
+
+-- the labelled chain of the files
+abbrev pub model_of : {names : FileNames} {files : Option (List Pair)} → TakesModel names files → LabelledChain
+model_of model = files_chain model.tra model.lab
+
+-- all was read, and these are the formula's text, its horizon and the answers at the states
+pub record IsAnswered (names : FileNames) (files : Option (List Pair)) (before now : Option (List ℕ)) (text : List ℕ) (horizon : Option ℕ)
+    (states : List StateAnswer) : Type 0 where
+  pub model : TakesModel names files
+  pub answers : AnswersFormula (model_of model) before now text horizon states
 
 -- all was read, and this is why the formula is refused
 pub record IsRefused (names : FileNames) (files : Option (List Pair)) (before now : Option (List ℕ)) (refusal : Refusal) : Type 0 where
   pub model : TakesModel names files
-  pub label : ℕ
-  pub formula : PlainFormula
-  pub takes_formula : TakesFormula model.lab.names before now label formula
-  pub is_refusal : formula_answer (tra_chain model.tra) model.tra.scale (lab_goal model.lab label) formula ≡ Refuses refusal
+  pub refuses : RefusesFormula (model_of model) before now refusal
 
 -- too much was read of the formulas, or they are no formula of the plain form over a declared name
 abbrev pub IsOtherInput : List (List ℕ) → Option (List ℕ) → Option (List ℕ) → Type 0

@@ -1,11 +1,11 @@
 -- What is known after the words, the files and the formulas are read.
-use Rattle.std.specs.Prelude.{◌≡◌, ℕ, Bool, ◌^◌, ◌<◌, ◌≤◌, ◌⊎◌, List, [], ◌∷◌, ◌++◌, length, Option, Some, None, All, Vec, Result, Ok, Err}
+use Rattle.std.specs.Prelude.{◌≡◌, ℕ, ◌^◌, ◌<◌, ◌≤◌, ◌⊎◌, List, [], ◌∷◌, ◌++◌, length, Option, Some, None, All, Vec, Result, Ok, Err}
 use Rattle.std.specs.declared.alloc.Global.{Global}
 use Rattle.outside.specs.Shelf.{Pair, IsFile, IsTooBig, file_limit}
 use Rattle.model_core.specs.Files.{TraLists, LabLists, RewLists}
-use Rattle.model_core.specs.Model.{ModelLists, IsBuiltOf, has_label, model_chain}
+use Rattle.model_core.specs.Model.{ModelLists, IsBuiltOf, labelled_chain}
 use Rattle.session.specs.Command.{FileNames, names_of, rew_name}
-use Rattle.session.specs.Outcome.{Outcome, Usage, Faulty, NotBuilt, Refused, Answered, TakesTra, IsTraFaulty, IsFileFaulty, TakesLab, IsLabFaulty, TakesRew, IsRewFaulty, TakesModel, TakesFormula, TakesOtherFormula, TakesTooMuch, IsOtherInput, name_at}
+use Rattle.session.specs.Outcome.{Outcome, Usage, Faulty, NotBuilt, Refused, Answered, TakesTra, IsTraFaulty, IsFileFaulty, TakesLab, IsLabFaulty, TakesRew, IsRewFaulty, TakesModel, TakesFormula, TakesOtherFormula, TakesTooMuch, IsOtherInput, AnswersFormula, RefusesFormula, name_at}
 use Rattle.session.specs.PlainFormula.{formula_text, IsPlainFormula}
 use Rattle.session.specs.FormulaAnswer.{Answers, Refuses, formula_answer}
 use Rattle.session.specs.Report.{IsPrintable}
@@ -68,25 +68,6 @@ abbrev pub IsModelReading : FileNames → Option (List Pair) → ModelReading �
 IsModelReading names files (Built model) = IsModelOf names files model
 IsModelReading names files (FileFaulty fault) = IsFileFaulty names files fault
 
--- the states of a model that have the label
-abbrev pub model_goal : ModelLists → ℕ → ℕ → Bool
-model_goal model label = has_label model.marks label
-
--- the formula was read, and these are its text, its horizon and the answers at the states
-pub record IsFormulaAnswer (model : ModelLists) (before now : Option (List ℕ)) (text : List ℕ) (horizon : Option ℕ) (states : List StateAnswer) : Type 0 where
-  pub label : ℕ
-  pub formula : PlainFormula
-  pub takes : TakesFormula model.names before now label formula
-  pub is_text : text ≡ formula_text (name_at model.names label) formula
-  pub are_states : formula_answer (model_chain model) model.scale (model_goal model label) formula ≡ Answers horizon states
-
--- the formula was read, and this is why it is refused
-pub record IsFormulaRefusal (model : ModelLists) (before now : Option (List ℕ)) (refusal : Refusal) : Type 0 where
-  pub label : ℕ
-  pub formula : PlainFormula
-  pub takes : TakesFormula model.names before now label formula
-  pub is_refusal : formula_answer (model_chain model) model.scale (model_goal model label) formula ≡ Refuses refusal
-
 -- the formula that the bytes are, over the declared name at its place, and none only where they are none over any
 abbrev pub IsNamedReading : List (List ℕ) → List ℕ → Option NamedFormula → Type 0
 IsNamedReading names bytes None = (label : ℕ) (formula : PlainFormula) → label < length names → ¬ IsPlainFormula (name_at names label) bytes formula
@@ -99,21 +80,18 @@ IsFormulaReading names before now (Some named) = TakesFormula names before now n
 
 -- what the formula gives over a model and one of its labels: an answer or a refusal
 abbrev pub IsAnswerTo : ModelLists → NamedFormula → Outcome → Type 0
-IsAnswerTo model named Usage = ⊥
-IsAnswerTo model named (Faulty fault) = ⊥
-IsAnswerTo model named (NotBuilt part) = ⊥
-IsAnswerTo model named (Refused refusal) = formula_answer (model_chain model) model.scale (model_goal model named.label) named.formula ≡ Refuses refusal
+IsAnswerTo model named (Refused refusal) = formula_answer (labelled_chain model) named.label named.formula ≡ Refuses refusal
 IsAnswerTo model named (Answered text horizon states) =
     (text ≡ formula_text (name_at model.names named.label) named.formula)
-    × (formula_answer (model_chain model) model.scale (model_goal model named.label) named.formula ≡ Answers horizon states)
+    × (formula_answer (labelled_chain model) named.label named.formula ≡ Answers horizon states)
+IsAnswerTo model named _ = ⊥
 
 -- what the formulas give over a model: an answer, a refusal, or that they are no plain formula
 abbrev pub IsFormulaOutcome : ModelLists → Option (List ℕ) → Option (List ℕ) → Outcome → Type 0
-IsFormulaOutcome model before now Usage = ⊥
-IsFormulaOutcome model before now (Faulty fault) = ⊥
 IsFormulaOutcome model before now (NotBuilt Formula) = IsOtherInput model.names before now
-IsFormulaOutcome model before now (Refused refusal) = IsFormulaRefusal model before now refusal
-IsFormulaOutcome model before now (Answered formula horizon states) = IsFormulaAnswer model before now formula horizon states
+IsFormulaOutcome model before now (Refused refusal) = RefusesFormula (labelled_chain model) before now refusal
+IsFormulaOutcome model before now (Answered formula horizon states) = AnswersFormula (labelled_chain model) before now formula horizon states
+IsFormulaOutcome model before now _ = ⊥
 
 -- the name is asked for, or memory ran out
 abbrev pub AsksForFile : {A : Type 0} → List ℕ → Result A Stop → List (List ℕ) → List (List ℕ) → Type 0

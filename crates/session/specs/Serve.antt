@@ -5,7 +5,7 @@ use Rattle.outside.specs.Shelf.{Pair, file_named}
 use Rattle.outside.specs.Whole.{WritesFront, AllFlushed}
 use Rattle.session.specs.Command.{FileNames, names_of}
 use Rattle.session.specs.ExactAnswer.{IsExactAnswer, formula_horizon}
-use Rattle.session.specs.Outcome.{Outcome, IsOutcome, IsRefused, outcome_text, outcome_status, TakesModel, TakesFormula, name_at, tra_chain, lab_goal}
+use Rattle.session.specs.Outcome.{Outcome, IsOutcome, IsRefused, outcome_text, outcome_status, TakesModel, TakesFormula, name_at, model_of}
 use Rattle.session.specs.PlainFormula.{formula_text}
 use Rattle.session.specs.Report.{answer_text}
 use Rattle.session.specs.declared.plain_formula.PlainFormula.{PlainFormula}
@@ -39,15 +39,13 @@ pub record AnswersExactly (names : FileNames) (files : Option (List Pair)) (left
   pub formula : PlainFormula
   pub takes_formula : TakesFormula model.lab.names left_before left_now label formula
   pub states : List StateAnswer
-  pub printed : Appends before now
-      (answer_text (formula_text (name_at model.lab.names label) formula) (formula_horizon (tra_chain model.tra) model.tra.scale formula) states)
+  pub printed : Appends before now (answer_text (formula_text (name_at model.lab.names label) formula) (formula_horizon (model_of model) formula) states)
   pub each_state : length states ≡ model.tra.n
-  pub exact : (s : ℕ) → s < model.tra.n
-      → IsSomeAnd (slice_get states s) (IsExactAnswer (tra_chain model.tra) model.tra.scale (lab_goal model.lab label) formula s)
+  pub exact : (s : ℕ) → s < model.tra.n → IsSomeAnd (slice_get states s) (IsExactAnswer (model_of model) label formula s)
 
 -- the formula was read, and there is a reason why it is refused
-abbrev pub RefusesFormula : FileNames → Option (List Pair) → Option (List ℕ) → Option (List ℕ) → Type 0
-RefusesFormula names files left_before left_now = (refusal : Refusal) × IsRefused names files left_before left_now refusal
+abbrev pub IsRefusedInput : FileNames → Option (List Pair) → Option (List ℕ) → Option (List ℕ) → Type 0
+IsRefusedInput names files left_before left_now = (refusal : Refusal) × IsRefused names files left_before left_now refusal
 
 -- a front of the outcome's text is written
 pub record IsCutShort (words : List (List ℕ)) (files : Option (List Pair)) (left_before left_now before now : Option (List ℕ)) : Type 0 where

@@ -8,7 +8,7 @@ ghost use Rattle.session.specs.Command.{command_of, names_of};
 ghost use Rattle.session.specs.Outcome.{Outcome, IsOutcome, IsFileFaulty, IsNotBuilt, outcome_text, outcome_status, usage_text, not_built_text, refused_text};
 ghost use Rattle.session.specs.ReadCause.{HasReadCause, IsUntouched};
 ghost use Rattle.session.specs.Reading.{outcome_of, IsWritable};
-ghost use Rattle.session.specs.Serve.{Says, Settles, RefusesFormula, AnswersExactly, IsCutShort, AsksFor, AsksBy, IsUsageOrLost, IsLostOr, IsLost};
+ghost use Rattle.session.specs.Serve.{Says, Settles, IsRefusedInput, AnswersExactly, IsCutShort, AsksFor, AsksBy, IsUsageOrLost, IsLostOr, IsLost};
 
 use crate::fault_line::write_fault;
 use crate::reading::{Reply, Stop, read_reply};
@@ -44,7 +44,7 @@ pub fn serve<F: Files, S: Source, K: Sink, G: Gate>(
         (K.written out.old) (K.written out.new) (K.flushed out.new) result) }
     ensures usage { result ≡ Status.Usage → IsNone (command_of (map string_bytes words.now)) × Keeps (S.left formulas.old) (S.left formulas.new) }
     ensures refused { result ≡ Status.Refused → IsSomeAnd (command_of (map string_bytes words.now)) (λ names.
-        RefusesFormula names (F.files files.old) (S.left formulas.old) (S.left formulas.new)) }
+        IsRefusedInput names (F.files files.old) (S.left formulas.old) (S.left formulas.new)) }
     ensures model { (fault : _) → result ≡ Status.Model fault → IsSomeAnd (command_of (map string_bytes words.now)) (λ names.
         IsFileFaulty names (F.files files.old) fault × Keeps (S.left formulas.old) (S.left formulas.new)) }
     ensures not_built { (part : _) → result ≡ Status.NotBuilt part → IsSomeAnd (command_of (map string_bytes words.now)) (λ names.
