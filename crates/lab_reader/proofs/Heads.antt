@@ -2,11 +2,15 @@
 use Rattle.std.proofs.Common.{◌≡◌, ℕ, inl, inr, List, [], ◌∷◌, ◌++◌, ap, refl, sym, subst, ◌∙◌, append_assoc, append-nil}
 use Rattle.std.proofs.lemmas.List.Concat.{flat_map-append}
 use Rattle.std.proofs.lemmas.List.Elements.{All-nil, All-push}
-use Rattle.text_lines.specs.WordLines.{WordLine}
+use Rattle.text_lines.proofs.Telling.{told_weaker}
+use Rattle.text_lines.specs.LinesOf.{end_line_of}
+use Rattle.text_lines.specs.Told.{IsToldBy}
+use Rattle.text_lines.specs.WordLines.{WordLine, word_lines_of}
 use Rattle.text_lines.specs.declared.fault.FileWhat.{FileWhat}
 use Rattle.text_lines.specs.declared.fault.FileWhat.TheVariants as what
+use Rattle.text_lines.specs.declared.fault.ReadFault.{ReadFault}
 use Rattle.lab_reader.specs.Declarations.{IsOpening, IsClosing, AreNames, words_in, Declares}
-use Rattle.lab_reader.specs.LabFault.{HasFailingWord, HasFailingName, LinesHaveFault}
+use Rattle.lab_reader.specs.LabFault.{HasFailingWord, HasFailingName, LinesHaveFault, LabFaultAt}
 use Rattle.lab_reader.specs.Reading.{HasNames}
 use Rattle.lab_reader.proofs.Declared.{names_none}
 
@@ -71,3 +75,15 @@ failing_name n lines end names line more w h other f = name_fault_holds n lines 
   word = subst (λ z. HasFailingWord z line.words w) h.are f;
   here = refl;
 })
+
+-- so it is told
+pub name_told : (text : List ℕ) (names : List (List ℕ)) (line : WordLine) (more : List WordLine) → HasNames (word_lines_of text) names (line ∷ more) → ¬ IsClosing line
+    → (fault : ReadFault) → IsToldBy (λ number w. (number ≡ line.number) × HasFailingWord names line.words w) fault
+    → IsToldBy (λ number w. (n : ℕ) → LabFaultAt text n number w) fault
+name_told text names line more h other fault told =
+    told_weaker (λ number w. (number ≡ line.number) × HasFailingWord names line.words w) (λ number w. (n : ℕ) → LabFaultAt text n number w)
+    (λ number w f n. subst (λ z. LabFaultAt text n z w) (sym f.0) (failing_name n (word_lines_of text) (end_line_of text) names line more w h other f.1)) fault told
+
+-- a fault of the declarations, which speak of no number of states
+pub of_declarations : (text : List ℕ) (n : ℕ) (fault : ReadFault) → IsToldBy (λ number w. (k : ℕ) → LabFaultAt text k number w) fault → IsToldBy (LabFaultAt text n) fault
+of_declarations text n fault h = told_weaker (λ number w. (k : ℕ) → LabFaultAt text k number w) (LabFaultAt text n) (λ number w f. f n) fault h

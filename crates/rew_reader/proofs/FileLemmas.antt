@@ -1,5 +1,5 @@
 -- What the entries of a file say of its rewards.
-use Rattle.std.proofs.Common.{◌≡◌, ℕ, ◌<◌, ◌≤◌, List, map, take, get_or, sym, subst, ◌∙◌, arith}
+use Rattle.std.proofs.Common.{◌≡◌, ℕ, ap, ◌<◌, ◌≤◌, List, map, take, get_or, sym, subst, ◌∙◌, arith}
 use Rattle.std.specs.List.{All, range_with_len}
 use Rattle.std.proofs.lemmas.List.Elements.{All-map}
 use Rattle.std.proofs.lemmas.List.Quantifiers.{Any-push}
@@ -56,6 +56,17 @@ module _ (n scale : ℕ) (lines : List WordLine) (es : List (EntryLine ℕ)) (re
     within = all_within h;
     rewards = h.are;
   }
+
+-- where the lists that the steps saw are the one that was read
+pub made : (n scale : ℕ) (lines : List WordLine) (es a b d : List (EntryLine ℕ)) (rewards : List ℕ) → AreRead (reward_lines n) state_number lines es
+    → a ≡ es → b ≡ es → d ≡ es → scale ≡ greatest_decimals (map value_of a) → All (IsInRange scale) b
+    → rewards ≡ map (reward_of scale (entries_of state_number d)) (range_with_len 0 n) → AreRewardsOf n scale lines es rewards
+made n scale lines es a b d rewards read p q r scale_is within are = record {
+  read = read;
+  scale_is = scale_is ∙ ap (λ z. greatest_decimals (map value_of z)) p;
+  within = subst (All (IsInRange scale)) q within;
+  are = are ∙ ap (λ z. map (reward_of scale (entries_of state_number z)) (range_with_len 0 n)) r;
+}
 
 -- how the code writes the element past a list's end
 abbrev pub no_entry : EntryLine ℕ

@@ -1,7 +1,7 @@
 -- The rates at the scale, one entry after another.
 use Rattle.std.proofs.Common.{◌≡◌, ℕ, ◌+◌, ◌-◌, ◌<◌, ◌≤◌, Bool, true, false, cond, List, [], ◌∷◌, ◌++◌, length, map, take, set, replicate, get_or, inl, inr, refl, sym, ap, subst, ◌∙◌, arith}
 use Rattle.std.proofs.lemmas.Bool.{cases_eq, eq-eqb, ne_eqb}
-use Rattle.std.proofs.lemmas.List.{map-append, append-nil, take_all, get_or-set_same, get_or-set_other, length-set, length-replicate, get_or-replicate}
+use Rattle.std.proofs.lemmas.List.{map-append, append-nil, take_all, get_or_default, get_or-set_same, get_or-set_other, length-set, length-replicate, get_or-replicate}
 use Rattle.std.proofs.lemmas.List.Elements.{All-nil, All-cons, filter-append}
 use Rattle.std.proofs.lemmas.List.Sums.{sum_by_push, sum_by-cons}
 use Rattle.std.specs.Bool.{◌==◌, nat_lt}
@@ -92,6 +92,17 @@ pub record IsNextSum (scale n : ℕ) (es : List (EntryLine Pair)) (i : ℕ) (d :
   pub state : (get_or es i d).key.from < n
   pub is : sum ≡ get_or sums (get_or es i d).key.from 0 + rate_at scale (get_or es i d)
   pub before : AreSums scale n (take i es) sums
+
+-- as the code adds it up: from is the state, and old the sum so far, which the code reads with some default
+pub next_sum : (scale n : ℕ) (es : List (EntryLine Pair)) (i : ℕ) (d : EntryLine Pair) (sums : List ℕ) (from old default value : ℕ) → i < length es
+    → (get_or es i d).key.from < n → AreSums scale n (take i es) sums → from ≡ (get_or es i d).key.from → old ≡ get_or sums from default
+    → value ≡ rate_at scale (get_or es i d) → IsNextSum scale n es i d sums (old + value)
+next_sum scale n es i d sums from old default value within state before from_is old_is value_is =
+    let s = (get_or es i d).key.from in
+    let here : old ≡ get_or sums s 0 =
+    old_is ∙ ap (λ z. get_or sums z default) from_is ∙ get_or_default sums s default 0 (omega (arith, state, before.long))
+    in
+    record { within = within; state = state; is = omega (arith, here, value_is); before = before }
 
 module _ (scale n : ℕ) (es : List (EntryLine Pair)) (i : ℕ) (d : EntryLine Pair) (sums : List ℕ) (sum : ℕ) (next : IsNextSum scale n es i d sums sum) where
   -- it stays below the limit

@@ -69,8 +69,7 @@ is_no_number word (Err TooBig) a = (λ e. cc, λ none. absurd (none (a.spelling,
 is_no_number word (Err NotNumber) a = absurd a.answer
 
 is_too_fine : (word : List ℕ) (r : Result DecimalNumber NumberFault) → Answered word r → (r ≡ Err TooFine) ↔ IsTooFine word
-is_too_fine word (Ok d) a =
-    (λ e. cc, λ t. absurd (not_both_fine word t.number d t.stands (value_of word (Ok d) a) t.fine a.answer.0.decimals))
+is_too_fine word (Ok d) a = (λ e. cc, λ t. absurd (not_both_fine word t.number d t.stands (value_of word (Ok d) a) t.fine a.answer.0.decimals))
 is_too_fine word (Err TooFine) a =
     let d = a.answer.0 in
     (λ _. record { number = d; stands = stands word a.spelling a.spelled d a.answer.1; fine = a.answer.2 }, λ _. refl)
@@ -80,8 +79,7 @@ is_too_fine word (Err TooBig) a =
 is_too_fine word (Err NotNumber) a = absurd a.answer
 
 is_too_big : (word : List ℕ) (r : Result DecimalNumber NumberFault) → Answered word r → (r ≡ Err TooBig) ↔ IsTooBig word
-is_too_big word (Ok d) a =
-    (λ e. cc, λ t. absurd (not_both_big word t.number d t.stands (value_of word (Ok d) a) t.big a.answer.0.below))
+is_too_big word (Ok d) a = (λ e. cc, λ t. absurd (not_both_big word t.number d t.stands (value_of word (Ok d) a) t.big a.answer.0.below))
 is_too_big word (Err TooFine) a =
     let d = a.answer.0 in
     (λ e. cc, λ t. absurd (not_both_fine word d t.number (stands word a.spelling a.spelled d a.answer.1) t.stands a.answer.2 t.decimals))
