@@ -31,7 +31,9 @@ module _ (lines rows : List WordLine) (n count : ℕ) (es : List (EntryLine Pair
     body = rows;
     head = subst (λ z. HasHead lines z count rows) (sym chain.states) head;
     entries = entries_of pair_of es;
-    are = subst (λ z. AreEntries (transition_lines z) rows (entries_of pair_of es)) (sym chain.states) (are_entries (transition_lines n) pair_of rows es read.read);
+    are =
+        subst (λ z. AreEntries (transition_lines z) rows (entries_of pair_of es)) (sym chain.states)
+        (are_entries (transition_lines n) pair_of rows es read.read);
     all = read.all;
     scale = chain.scale;
     rates = chain.rates;
@@ -55,7 +57,8 @@ module _ (lines rows : List WordLine) (n count : ℕ) (es : List (EntryLine Pair
   says_made (Err fault) h = tt
 
   -- and a fault that it was refused for is one of the lines
-  told_made : (end : ℕ) (made : Result TraLists ReadFault) → IfErr made (IsToldBy (HasRateFault es)) → IfErr made (IsToldBy (LinesHaveFault lines end))
+  told_made : (end : ℕ) (made : Result TraLists ReadFault) → IfErr made (IsToldBy (HasRateFault es))
+      → IfErr made (IsToldBy (LinesHaveFault lines end))
   told_made end (Ok tra) h = tt
   told_made end (Err fault) h = told_weaker (HasRateFault es) (LinesHaveFault lines end) (rate_fault end) fault h
 

@@ -10,8 +10,10 @@ use Rattle.lab_reader.proofs.declarations.read_names.Goals as goal
 pub loop-line-preserved : goal.loop-line-preserved
 loop-line-preserved c =
     let Names = HasNames (word_lines_of c.args.bytes.now) c.loop-line.names.items in
-    names_line (word_lines_of c.args.bytes.now) c.loop-line.names.items c.declare_line.new.names.items (word_line (line_text c.in-Some.line)) (word_lines_in c.next_filled.new.lines)
-    (subst Names c.in-Some.ensures c.loop-line.invariant) (λ is. both_ways c.is_only.result c.if-is_only.false (c.is_only.ensures.1 is)) c.in_ok-declare_line.ensures.0
+    names_line (word_lines_of c.args.bytes.now) c.loop-line.names.items c.declare_line.new.names.items
+    (word_line (line_text c.in-Some.line)) (word_lines_in c.next_filled.new.lines)
+    (subst Names c.in-Some.ensures c.loop-line.invariant)
+    (λ is. both_ways c.is_only.result c.if-is_only.false (c.is_only.ensures.1 is)) c.in_ok-declare_line.ensures.0
     c.in_ok-declare_line.ensures.1
 
 pub returns-in_err-declare_line : goal.returns-in_err-declare_line

@@ -34,7 +34,8 @@ returns-in-Some-clause-fault c =
 
 pub rewards_of-requires-clause-states : goal.rewards_of-requires-clause-states
 rewards_of-requires-clause-states c =
-    rw c.deref-3.ensures.value (states_below c.args.n (word_lines_of c.args.bytes.now) c.in_ok-entries.entries.items c.in_ok-entries.ensures.read)
+    rw c.deref-3.ensures.value
+    (states_below c.args.n (word_lines_of c.args.bytes.now) c.in_ok-entries.entries.items c.in_ok-entries.ensures.read)
 
 pub rewards_of-requires-clause-decimals : goal.rewards_of-requires-clause-decimals
 rewards_of-requires-clause-decimals c =
@@ -54,7 +55,8 @@ new-requires c =
 
 pub returns-clause-value : goal.returns-clause-value
 returns-clause-value c =
-    rw c.new.ensures (says_rew c.args.n c.scale_of-scale.result (word_lines_of c.args.bytes.now) c.in_ok-entries.entries.items c.in_ok-rewards.rewards.items
+    rw c.new.ensures
+    (says_rew c.args.n c.scale_of-scale.result (word_lines_of c.args.bytes.now) c.in_ok-entries.entries.items c.in_ok-rewards.rewards.items
     (made c.args.n c.scale_of-scale.result (word_lines_of c.args.bytes.now) c.in_ok-entries.entries.items c.deref.result.now c.deref-2.result.now c.deref-3.result.now
     c.in_ok-rewards.rewards.items c.in_ok-entries.ensures.read c.deref.ensures.value c.deref-2.ensures.value c.deref-3.ensures.value
     c.scale_of-scale.ensures c.in_default.ensures c.in_ok-rewards.ensures))

@@ -16,7 +16,8 @@ returns-then-place-len c =
 
 pub returns-in-AllRead : goal.returns-in-AllRead
 returns-in-AllRead c =
-    whole c.args.body.now c.in_ok-place.place (subst (λ z. IsFirstRepeated z c.in_ok-place.place) c.deref.ensures.value c.in_ok-place.ensures)
+    whole c.args.body.now c.in_ok-place.place
+    (subst (λ z. IsFirstRepeated z c.in_ok-place.place) c.deref.ensures.value c.in_ok-place.ensures)
     (omega (arith, c.len.ensures, c.if-place-len.false)) c.in-AllRead.is
 
 pub returns-in-Missing : goal.returns-in-Missing

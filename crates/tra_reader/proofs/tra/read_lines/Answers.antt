@@ -20,7 +20,8 @@ returns-clause-value c =
 
 pub returns-clause-fault : goal.returns-clause-fault
 returns-clause-fault c = (
-    text_made c.args.bytes.now c.lines-lines.result (word_lines_in c.read_head.new.lines) c.in_ok-head.head.states c.in_ok-head.head.transitions c.in_ok-body.body.entries.items
+    text_made c.args.bytes.now c.lines-lines.result
+    (word_lines_in c.read_head.new.lines) c.in_ok-head.head.states c.in_ok-head.head.transitions c.in_ok-body.body.entries.items
     c.deref.result.now c.chain_of.result c.lines-lines.ensures.computed c.in_ok-head.ensures.head
     (c.in_ok-check_body.ensures c.in_ok-head.head.states c.in_ok-head.head.transitions (word_lines_in c.read_head.new.lines) c.in_ok-body.ensures) c.deref.ensures.value
     c.chain_of.ensures.value c.chain_of.ensures.fault).1
