@@ -1,5 +1,6 @@
 -- A decimal's text stands for it.
-use Rattle.std.proofs.Common.{◌≡◌, ℕ, ◌+◌, ◌*◌, ◌/◌, ◌%◌, ◌^◌, ◌<◌, ◌≢◌, ◌⊎◌, inl, inr, ◌==◌, true, false, if◌then◌else◌, Some, None, [], ◌∷◌, ◌++◌, length, ap, sym, subst, ◌∙◌, arith, append-nil}
+use Rattle.std.proofs.Common.{◌≡◌, ℕ, ◌+◌, ◌*◌, ◌/◌, ◌%◌, ◌^◌, ◌<◌, ◌≢◌, ◌⊎◌, inl, inr, ◌==◌, true, false, if◌then◌else◌, Some, None, []}
+use Rattle.std.proofs.Common.{◌∷◌, ◌++◌, length, ap, sym, subst, ◌∙◌, arith, append-nil}
 use Rattle.std.proofs.Math.Nat.{div-le_self}
 use Rattle.std.proofs.lemmas.Bool.Decides.{nat_tests}
 use Rattle.std.proofs.lemmas.Fmt.{decimal_is_IsNumeral}
@@ -101,6 +102,7 @@ text_stands d s =
     let below : d.c < 2 ^ 64 = omega (arith, s.below) in
     elim (zero_or_positive d.x) [
       | inl e ↦
-          subst (λ t. StandsFor t d) (sym (text-whole d e)) (subst (λ x. StandsFor (decimal d.c) (form d.c x)) (sym e) (whole_stands d.c below))
+          subst (λ t. StandsFor t d) (sym (text-whole d e))
+          (subst (λ x. StandsFor (decimal d.c) (form d.c x)) (sym e) (whole_stands d.c below))
       | inr n ↦ subst (λ t. StandsFor t d) (sym (text-point d n)) (point_stands d.c d.x below s.normal)
     ]

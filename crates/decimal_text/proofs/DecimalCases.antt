@@ -72,7 +72,8 @@ some_word_case word =
           elim (cases_lt 18 v.0.x) [
             | inl fine ↦ (Lacks TooFine, record { number = v.0; stands = v.1; fine = fine })
             | inr few ↦ elim (cases_lt v.0.c (10 ^ 18)) [
-              | inl below ↦ (Writes v.0, record { stands = v.1; short = record { below = below; decimals = few; normal = v.1.value.normal } })
+              | inl below ↦
+                  (Writes v.0, record { stands = v.1; short = record { below = below; decimals = few; normal = v.1.value.normal } })
               | inr big ↦ (Lacks TooBig, record { number = v.0; stands = v.1; decimals = few; big = big })
             ]
           ]

@@ -1,5 +1,6 @@
 -- Laws of `fixed_digits`, and of the number that its digits write.
-use Rattle.std.proofs.Common.{◌≡◌, ℕ, zero, suc, ◌+◌, ◌*◌, ◌/◌, ◌%◌, ◌^◌, ◌<◌, List, [], ◌∷◌, ◌++◌, length, get_or, drop, set, ap, refl, sym, ◌∙◌, append_assoc, append-nil, add-zero, zero-add, arith, length-append, pow-suc}
+use Rattle.std.proofs.Common.{◌≡◌, ℕ, zero, suc, ◌+◌, ◌*◌, ◌/◌, ◌%◌, ◌^◌, ◌<◌, List, [], ◌∷◌, ◌++◌, length, get_or, drop, set, ap, refl}
+use Rattle.std.proofs.Common.{sym, ◌∙◌, append_assoc, append-nil, add-zero, zero-add, arith, length-append, pow-suc}
 use Rattle.std.proofs.lemmas.List.{drop-set}
 use Rattle.std.proofs.lemmas.Nat.{div-mul-add, mod-mul-add, div-add-mod', mod_below}
 use Rattle.std.proofs.lemmas.Bool.Decides.{nat_tests}
@@ -73,7 +74,8 @@ fixed_digits_injective k v w a b e =
     sym (digits_value-fixed_digits k v a) ∙ ap (digits_value 10) e ∙ digits_value-fixed_digits k w b
 
 -- digits that follow those of n
-fixed_digits-digits_value_after : (k n : ℕ) (ds : List ℕ) → AllDigits 10 ds → fixed_digits (k + length ds) (digits_value_after 10 n ds) ≡ fixed_digits k n ++ ds
+fixed_digits-digits_value_after : (k n : ℕ) (ds : List ℕ) → AllDigits 10 ds
+    → fixed_digits (k + length ds) (digits_value_after 10 n ds) ≡ fixed_digits k n ++ ds
 fixed_digits-digits_value_after k n [] h = rw (add-zero k) (sym (append-nil (fixed_digits k n)))
 fixed_digits-digits_value_after k n (c ∷ cs) h =
     let next : ℕ = n * 10 + digit_value c in
@@ -111,6 +113,8 @@ fixed_digits-mod (suc k) v =
     ∙ ap (λ ds. ds ++ (48 + v % 10) ∷ []) (fixed_digits-mod k (v / 10))
 
 -- the last digit of rest, written before those that stand from q on
-pub one_digit_back : (k j p r q rest : ℕ) (text : List ℕ) → j ≡ suc k → r ≡ p → q ≡ p + 1 → p < length text → fixed_digits k (rest / 10) ++ drop r (set text p (48 + rest % 10)) ≡ fixed_digits j rest ++ drop q text
+pub one_digit_back : (k j p r q rest : ℕ) (text : List ℕ) → j ≡ suc k → r ≡ p → q ≡ p + 1 → p < length text
+    → fixed_digits k (rest / 10) ++ drop r (set text p (48 + rest % 10)) ≡ fixed_digits j rest ++ drop q text
 one_digit_back k j p r q rest text ej er eq l =
-    rw (ej, er, eq, drop-set text p (48 + rest % 10) l) (sym (append_assoc (fixed_digits k (rest / 10)) ((48 + rest % 10) ∷ []) (drop (p + 1) text)))
+    rw (ej, er, eq, drop-set text p (48 + rest % 10) l)
+    (sym (append_assoc (fixed_digits k (rest / 10)) ((48 + rest % 10) ∷ []) (drop (p + 1) text)))

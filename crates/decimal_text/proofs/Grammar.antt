@@ -1,8 +1,10 @@
 -- A word is spelled in one way at most.
-use Rattle.std.proofs.Common.{◌≡◌, ℕ, ◌<◌, ◌≤◌, ◌≢◌, ◌⊎◌, inl, inr, Option, Some, None, unwrap_or, List, [], ◌∷◌, ◌++◌, ap, refl, sym, subst, append_assoc, ◌∙◌, arith}
+use Rattle.std.proofs.Common.{◌≡◌, ℕ, ◌<◌, ◌≤◌, ◌≢◌, ◌⊎◌, inl, inr, Option, Some, None, unwrap_or, List, [], ◌∷◌, ◌++◌, ap, refl, sym}
+use Rattle.std.proofs.Common.{subst, append_assoc, ◌∙◌, arith}
 use Rattle.std.specs.Char.{digit_value}
 use Rattle.std.specs.Str.Parse.{AllDigits, IsNumeral}
-use Rattle.decimal_text.specs.Spelling.{MantissaSpelling, decimals_text, mantissa_text, IsMantissa, Sign, NoSign, Plus, Minus, sign_text, ExponentSpelling, exponent_text, IsWritten, IsExponent, Spelling, IsSpelledAs}
+use Rattle.decimal_text.specs.Spelling.{MantissaSpelling, decimals_text, mantissa_text, IsMantissa, Sign, NoSign, Plus, Minus, sign_text}
+use Rattle.decimal_text.specs.Spelling.{ExponentSpelling, exponent_text, IsWritten, IsExponent, Spelling, IsSpelledAs}
 use Rattle.decimal_text.specs.Reading.{BeginsWithNoDigit, BeginsWithNoPoint}
 
 pub no_digit_starts : (c : ℕ) (cs rest : List ℕ) → digit_value c < 10 → BeginsWithNoDigit rest → c ∷ cs ≡ rest → ⊥
@@ -10,7 +12,8 @@ no_digit_starts c cs [] d n e = cc
 no_digit_starts c cs (r ∷ rs) d n e = let same : c ≡ r = cc in omega (arith, ap digit_value same)
 
 -- a text's longest run of digits
-pub run_unique : (ds es rest tail : List ℕ) → AllDigits 10 ds → AllDigits 10 es → BeginsWithNoDigit rest → BeginsWithNoDigit tail → ds ++ rest ≡ es ++ tail → (ds ≡ es) × (rest ≡ tail)
+pub run_unique : (ds es rest tail : List ℕ) → AllDigits 10 ds → AllDigits 10 es → BeginsWithNoDigit rest → BeginsWithNoDigit tail
+    → ds ++ rest ≡ es ++ tail → (ds ≡ es) × (rest ≡ tail)
 run_unique [] [] rest tail a b n t e = (refl, e)
 run_unique [] (c ∷ cs) rest tail a b n t e = absurd (no_digit_starts c (cs ++ tail) rest b.0 n (sym e))
 run_unique (c ∷ cs) [] rest tail a b n t e = absurd (no_digit_starts c (cs ++ rest) tail a.0 t e)
@@ -28,7 +31,8 @@ numeral_starts (c ∷ cs) es b n h e = no_digit_starts c cs (b ∷ es) n.1.0 h e
 plus_is_not_minus : (ds es : List ℕ) → 43 ∷ ds ≡ 45 ∷ es → ⊥
 plus_is_not_minus ds es e = let first : (a b : ℕ) → a ∷ ds ≡ b ∷ es → a ≡ b = λ a b h. cc in omega (arith, first 43 45 e)
 
-signed_unique : (s t : Sign) (ds es : List ℕ) → IsNumeral 10 ds → IsNumeral 10 es → sign_text s ++ ds ≡ sign_text t ++ es → (s ≡ t) × (ds ≡ es)
+signed_unique : (s t : Sign) (ds es : List ℕ) → IsNumeral 10 ds → IsNumeral 10 es → sign_text s ++ ds ≡ sign_text t ++ es
+    → (s ≡ t) × (ds ≡ es)
 signed_unique NoSign NoSign ds es m n e = (refl, e)
 signed_unique NoSign Plus ds es m n e = absurd (numeral_starts ds es 43 m (omega arith) e)
 signed_unique NoSign Minus ds es m n e = absurd (numeral_starts ds es 45 m (omega arith) e)
@@ -79,7 +83,9 @@ point_starts : (rest more : List ℕ) → BeginsWithNoPoint rest → rest ≡ 46
 point_starts [] more n e = cc
 point_starts (c ∷ cs) more n e = n (let first : c ≡ 46 = cc in first)
 
-decimals_unique : (o q : Option (List ℕ)) (rest tail : List ℕ) → AllDigits 10 (unwrap_or o []) → AllDigits 10 (unwrap_or q []) → BeginsWithNoDigit rest → (o ≡ None → BeginsWithNoPoint rest) → BeginsWithNoDigit tail → BeginsWithNoPoint tail → decimals_text o ++ rest ≡ decimals_text q ++ tail → (o ≡ q) × (rest ≡ tail)
+decimals_unique : (o q : Option (List ℕ)) (rest tail : List ℕ) → AllDigits 10 (unwrap_or o []) → AllDigits 10 (unwrap_or q [])
+    → BeginsWithNoDigit rest → (o ≡ None → BeginsWithNoPoint rest) → BeginsWithNoDigit tail → BeginsWithNoPoint tail
+    → decimals_text o ++ rest ≡ decimals_text q ++ tail → (o ≡ q) × (rest ≡ tail)
 decimals_unique None None rest tail a b n p m r e = (refl, e)
 decimals_unique None (Some es) rest tail a b n p m r e = absurd (point_starts rest (es ++ tail) (p refl) e)
 decimals_unique (Some ds) None rest tail a b n p m r e = absurd (point_starts tail (ds ++ rest) r (sym e))
@@ -91,12 +97,17 @@ abbrev mantissa : List ℕ → Option (List ℕ) → MantissaSpelling
 mantissa whole decimals = record { whole = whole; decimals = decimals }
 
 -- a text's longest mantissa
-pub mantissa_unique : (m n : MantissaSpelling) (rest tail : List ℕ) → IsMantissa m → IsMantissa n → BeginsWithNoDigit rest → (m.decimals ≡ None → BeginsWithNoPoint rest) → BeginsWithNoDigit tail → BeginsWithNoPoint tail → mantissa_text m ++ rest ≡ mantissa_text n ++ tail → (m ≡ n) × (rest ≡ tail)
+pub mantissa_unique : (m n : MantissaSpelling) (rest tail : List ℕ) → IsMantissa m → IsMantissa n → BeginsWithNoDigit rest
+    → (m.decimals ≡ None → BeginsWithNoPoint rest) → BeginsWithNoDigit tail → BeginsWithNoPoint tail
+    → mantissa_text m ++ rest ≡ mantissa_text n ++ tail → (m ≡ n) × (rest ≡ tail)
 mantissa_unique m n rest tail a b d p t r e =
     let regrouped : m.whole ++ (decimals_text m.decimals ++ rest) ≡ n.whole ++ (decimals_text n.decimals ++ tail) =
     sym (append_assoc m.whole (decimals_text m.decimals) rest) ∙ e ∙ append_assoc n.whole (decimals_text n.decimals) tail
     in
-    let whole = run_unique m.whole n.whole _ _ a.whole b.whole (decimals_after_digits m.decimals rest d) (decimals_after_digits n.decimals tail t) regrouped in
+    let whole =
+    run_unique m.whole n.whole _ _ a.whole b.whole (decimals_after_digits m.decimals rest d)
+    (decimals_after_digits n.decimals tail t) regrouped
+    in
     let decimals = decimals_unique m.decimals n.decimals rest tail a.decimals b.decimals d p t r whole.1 in
     (ap (λ w. mantissa w m.decimals) whole.0 ∙ ap (mantissa n.whole) decimals.0, decimals.1)
 
@@ -105,5 +116,10 @@ spelling m e = record { mantissa = m; exponent = e }
 
 pub spelling_unique : (word : List ℕ) (s t : Spelling) → IsSpelledAs word s → IsSpelledAs word t → s ≡ t
 spelling_unique word s t a b =
-    let parts = mantissa_unique s.mantissa t.mantissa (exponent_text s.exponent) (exponent_text t.exponent) a.parts.mantissa b.parts.mantissa (exponent_after_digits s.exponent a.parts.exponent) (λ _. exponent_after_point s.exponent a.parts.exponent) (exponent_after_digits t.exponent b.parts.exponent) (exponent_after_point t.exponent b.parts.exponent) (sym a.text ∙ b.text) in
-    ap (λ m. spelling m s.exponent) parts.0 ∙ ap (spelling t.mantissa) (exponent_unique s.exponent t.exponent a.parts.exponent b.parts.exponent parts.1)
+    let parts =
+    mantissa_unique s.mantissa t.mantissa (exponent_text s.exponent) (exponent_text t.exponent) a.parts.mantissa b.parts.mantissa
+    (exponent_after_digits s.exponent a.parts.exponent) (λ _. exponent_after_point s.exponent a.parts.exponent)
+    (exponent_after_digits t.exponent b.parts.exponent) (exponent_after_point t.exponent b.parts.exponent) (sym a.text ∙ b.text)
+    in
+    ap (λ m. spelling m s.exponent) parts.0
+    ∙ ap (spelling t.mantissa) (exponent_unique s.exponent t.exponent a.parts.exponent b.parts.exponent parts.1)

@@ -1,9 +1,11 @@
 -- Whether a word is in the grammar of numbers can be decided.
-use Rattle.std.proofs.Common.{◌≡◌, ℕ, ◌+◌, ◌≤◌, ◌≢◌, ◌⊎◌, inl, inr, Option, Some, None, unwrap_or, List, [], ◌∷◌, ◌++◌, length, ap, refl, sym, subst, append_assoc, ◌∙◌, arith}
+use Rattle.std.proofs.Common.{◌≡◌, ℕ, ◌+◌, ◌≤◌, ◌≢◌, ◌⊎◌, inl, inr, Option, Some, None, unwrap_or, List, [], ◌∷◌, ◌++◌, length, ap, refl}
+use Rattle.std.proofs.Common.{sym, subst, append_assoc, ◌∙◌, arith}
 use Rattle.std.proofs.lemmas.Bool.{cases_lt, cases_eq}
 use Rattle.std.specs.Char.{digit_value}
 use Rattle.std.specs.Str.Parse.{AllDigits, IsNumeral}
-use Rattle.decimal_text.specs.Spelling.{decimals_text, Sign, NoSign, Plus, Minus, sign_text, ExponentSpelling, exponent_text, IsExponent, Spelling, IsSpelledAs, IsNumber}
+use Rattle.decimal_text.specs.Spelling.{decimals_text, Sign, NoSign, Plus, Minus, sign_text, ExponentSpelling, exponent_text, IsExponent}
+use Rattle.decimal_text.specs.Spelling.{Spelling, IsSpelledAs, IsNumber}
 use Rattle.decimal_text.specs.Reading.{BeginsWithNoDigit, BeginsWithNoPoint}
 use Rattle.decimal_text.proofs.Grammar.{run_unique, exponent_after_digits, exponent_after_point}
 
@@ -67,13 +69,15 @@ signed_by sign c cs e d =
       | inr n ↦ inr (λ h. not_signed c cs d n h.sign h.digits h.spelled h.numeral)
     ]
   where
-    not_signed : (c : ℕ) (cs : List ℕ) → 10 ≤ digit_value c → ¬ IsNumeral 10 cs → (t : Sign) (ds : List ℕ) → c ∷ cs ≡ sign_text t ++ ds → IsNumeral 10 ds → ⊥
+    not_signed : (c : ℕ) (cs : List ℕ) → 10 ≤ digit_value c → ¬ IsNumeral 10 cs → (t : Sign) (ds : List ℕ) → c ∷ cs ≡ sign_text t ++ ds
+        → IsNumeral 10 ds → ⊥
     not_signed c cs d n NoSign [] e m = cc
     not_signed c cs d n NoSign (b ∷ bs) e m = omega (arith, d, m.1.0, ap digit_value (same_first c b cs bs e))
     not_signed c cs d n Plus ds e m = n (subst (IsNumeral 10) (sym (same_rest c 43 cs ds e)) m)
     not_signed c cs d n Minus ds e m = n (subst (IsNumeral 10) (sym (same_rest c 45 cs ds e)) m)
 
-not_plain : (c : ℕ) (cs : List ℕ) → c ≢ 43 → c ≢ 45 → ¬ IsNumeral 10 (c ∷ cs) → (t : Sign) (ds : List ℕ) → c ∷ cs ≡ sign_text t ++ ds → IsNumeral 10 ds → ⊥
+not_plain : (c : ℕ) (cs : List ℕ) → c ≢ 43 → c ≢ 45 → ¬ IsNumeral 10 (c ∷ cs) → (t : Sign) (ds : List ℕ) → c ∷ cs ≡ sign_text t ++ ds
+    → IsNumeral 10 ds → ⊥
 not_plain c cs p m n NoSign ds e h = n (subst (IsNumeral 10) (sym e) h)
 not_plain c cs p m n Plus ds e h = p (same_first c 43 cs ds e)
 not_plain c cs p m n Minus ds e h = m (same_first c 45 cs ds e)
@@ -201,7 +205,9 @@ after_digits : (o : Option (List ℕ)) (rest : List ℕ) → BeginsWithNoDigit r
 after_digits None rest n = n
 after_digits (Some ds) rest n = omega arith
 
-same_decimals : (o q : Option (List ℕ)) (rest tail : List ℕ) → AllDigits 10 (unwrap_or o []) → AllDigits 10 (unwrap_or q []) → BeginsWithNoDigit rest → (o ≡ None → BeginsWithNoPoint rest) → BeginsWithNoDigit tail → BeginsWithNoPoint tail → decimals_text o ++ rest ≡ decimals_text q ++ tail → (o ≡ q) × (rest ≡ tail)
+same_decimals : (o q : Option (List ℕ)) (rest tail : List ℕ) → AllDigits 10 (unwrap_or o []) → AllDigits 10 (unwrap_or q [])
+    → BeginsWithNoDigit rest → (o ≡ None → BeginsWithNoPoint rest) → BeginsWithNoDigit tail → BeginsWithNoPoint tail
+    → decimals_text o ++ rest ≡ decimals_text q ++ tail → (o ≡ q) × (rest ≡ tail)
 same_decimals None None rest tail a b n p m r e = (refl, e)
 same_decimals None (Some es) rest tail a b n p m r e = absurd (point_starts rest (es ++ tail) (p refl) e)
 same_decimals (Some ds) None rest tail a b n p m r e = absurd (point_starts tail (ds ++ rest) r (sym e))
@@ -224,7 +230,10 @@ front_is word f s h =
     let same : f.whole ++ (decimals_text f.decimals ++ f.rest) ≡ m.whole ++ (decimals_text m.decimals ++ tail) =
     sym f.split ∙ h.text ∙ append_assoc m.whole (decimals_text m.decimals) tail
     in
-    let whole = run_unique f.whole m.whole _ _ f.whole_digits h.parts.mantissa.whole (after_digits f.decimals f.rest f.digit) (after_digits m.decimals tail n) same in
+    let whole =
+    run_unique f.whole m.whole _ _ f.whole_digits h.parts.mantissa.whole (after_digits f.decimals f.rest f.digit)
+    (after_digits m.decimals tail n) same
+    in
     let more = same_decimals f.decimals m.decimals f.rest tail f.decimal_digits h.parts.mantissa.decimals f.digit f.point n p whole.1 in
     record { whole = whole.0; decimals = more.0; rest = more.1 }
 
@@ -240,7 +249,10 @@ number_or_not word = by_front word (front_of word) where
               inl (
                 record { mantissa = record { whole = f.whole; decimals = f.decimals }; exponent = x.exponent },
                 record {
-                  text = f.split ∙ ap (λ z. f.whole ++ (decimals_text f.decimals ++ z)) x.spelled ∙ sym (append_assoc f.whole (decimals_text f.decimals) (exponent_text x.exponent));
+                  text =
+                      f.split
+                      ∙ ap (λ z. f.whole ++ (decimals_text f.decimals ++ z)) x.spelled
+                      ∙ sym (append_assoc f.whole (decimals_text f.decimals) (exponent_text x.exponent));
                   parts = record {
                     mantissa = record { whole = f.whole_digits; decimals = f.decimal_digits; some = some };
                     exponent = x.is;

@@ -1,5 +1,6 @@
 -- A word stands for one number at most, and each number's word for some.
-use Rattle.std.proofs.Common.{◌≡◌, ℕ, zero, suc, ◌+◌, ◌*◌, ◌/◌, ◌%◌, ◌^◌, ◌≢◌, ◌⊎◌, length, inl, inr, ap, refl, sym, subst, ◌∙◌, arith, pow-suc}
+use Rattle.std.proofs.Common.{◌≡◌, ℕ, zero, suc, ◌+◌, ◌*◌, ◌/◌, ◌%◌, ◌^◌, ◌≢◌, ◌⊎◌, length, inl, inr, ap, refl, sym, subst, ◌∙◌, arith}
+use Rattle.std.proofs.Common.{pow-suc}
 use Rattle.std.proofs.Math.Nat.{eq_of_mul-eq-mul_right}
 use Rattle.decimal_text.specs.DecimalNumber.{DecimalNumber, IsNormal, IsNormalFormOf}
 use Rattle.decimal_text.specs.NumberValue.{IsValueOf, mantissa_number, tens_up, tens_down, AWordHasOneValue, EachNumberHasAValue}

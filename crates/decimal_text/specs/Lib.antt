@@ -5,4 +5,5 @@ pub mod Spelling
 pub mod NumberValue
 pub mod DecimalWord
 pub mod Scale
+-- what the reader's own functions say
 pub mod Reading

@@ -2,7 +2,8 @@
 use Rattle.std.specs.Prelude.{◌≡◌, ℕ, ◌+◌, ◌^◌, ◌<◌, ◌≤◌, Option, Some, None, List, ◌++◌, length}
 use Rattle.std.specs.Str.Parse.{digits_value}
 use Rattle.decimal_text.specs.DecimalNumber.{DecimalNumber, IsNormalFormOf}
-use Rattle.decimal_text.specs.Spelling.{MantissaSpelling, decimals_of, Sign, NoSign, Plus, Minus, ExponentSpelling, Spelling, IsSpelledAs, IsNumber}
+use Rattle.decimal_text.specs.Spelling.{MantissaSpelling, decimals_of, Sign, NoSign, Plus, Minus, ExponentSpelling, Spelling, IsSpelledAs}
+use Rattle.decimal_text.specs.Spelling.{IsNumber}
 
 -- the number that the mantissa's digits write without the point
 abbrev pub mantissa_number : MantissaSpelling → ℕ

@@ -1,5 +1,6 @@
 -- What the parts of `read` know of the bytes that they have read.
-use Rattle.std.specs.Prelude.{◌≡◌, ℕ, ◌+◌, ◌-◌, ◌*◌, ◌%◌, ◌^◌, ◌<◌, ◌≤◌, ◌≢◌, ◌⊎◌, min, Option, None, Result, Ok, Err, List, [], ◌∷◌, ◌++◌, length, take, drop, ⊤}
+use Rattle.std.specs.Prelude.{◌≡◌, ℕ, ◌+◌, ◌-◌, ◌*◌, ◌%◌, ◌^◌, ◌<◌, ◌≤◌, ◌≢◌, ◌⊎◌, min, Option, None, Result, Ok, Err, List, [], ◌∷◌, ◌++◌}
+use Rattle.std.specs.Prelude.{length, take, drop, ⊤}
 use Rattle.std.specs.Char.{digit_value}
 use Rattle.std.specs.Str.Parse.{AllDigits, IsNumeral, digits_value}
 use Rattle.decimal_text.specs.declared.number_fault.NumberFault.{NumberFault}
@@ -8,7 +9,8 @@ use Rattle.decimal_text.specs.declared.significand.Significand.{Significand}
 use Rattle.decimal_text.specs.declared.exponent.Exponent.{Exponent}
 use Rattle.decimal_text.specs.declared.exponent.Exponent.TheVariants.{Up, Down}
 use Rattle.decimal_text.specs.DecimalNumber.{DecimalNumber, IsShortDecimal, IsNormalFormOf}
-use Rattle.decimal_text.specs.Spelling.{MantissaSpelling, mantissa_text, decimals_of, IsMantissa, Sign, sign_text, ExponentSpelling, exponent_text, IsExponent}
+use Rattle.decimal_text.specs.Spelling.{MantissaSpelling, mantissa_text, decimals_of, IsMantissa, Sign, sign_text, ExponentSpelling}
+use Rattle.decimal_text.specs.Spelling.{exponent_text, IsExponent}
 use Rattle.decimal_text.specs.NumberValue.{mantissa_number, tens_up_by, tens_up, tens_down_by, tens_down}
 
 -- the text is empty, or its first byte is no digit

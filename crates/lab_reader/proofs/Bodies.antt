@@ -22,7 +22,9 @@ pub record HasMarked (n : ℕ) (names : List (List ℕ)) (body : List WordLine) 
 pub marked_none : (n : ℕ) (names : List (List ℕ)) (body : List WordLine) → HasMarked n names body (replicate n 0) body
 marked_none n names body = record { front = []; split = refl; right = All-nil (IsSomeLabelLine n names); are = marks_none n names }
 
-pub marked_more : (n : ℕ) (names : List (List ℕ)) (body : List WordLine) (marks : List ℕ) (line : WordLine) (left : List WordLine) (state mask : ℕ) → HasMarked n names body marks (line ∷ left) → GivesMask n names line state mask → HasMarked n names body (marks_with marks state mask) left
+pub marked_more : (n : ℕ) (names : List (List ℕ)) (body : List WordLine) (marks : List ℕ) (line : WordLine) (left : List WordLine) (state mask : ℕ)
+    → HasMarked n names body marks (line ∷ left) → GivesMask n names line state mask
+    → HasMarked n names body (marks_with marks state mask) left
 marked_more n names body marks line left state mask h g = record {
   front = h.front ++ line ∷ [];
   split = h.split ∙ sym (append_assoc h.front (line ∷ []) left);
@@ -31,7 +33,8 @@ marked_more n names body marks line left state mask h g = record {
 }
 
 -- all lines were right
-pub marked_all : (n : ℕ) (names : List (List ℕ)) (body : List WordLine) (marks : List ℕ) → HasMarked n names body marks [] → GivesMarks n names body marks
+pub marked_all : (n : ℕ) (names : List (List ℕ)) (body : List WordLine) (marks : List ℕ) → HasMarked n names body marks []
+    → GivesMarks n names body marks
 marked_all n names body marks h =
     let same : h.front ≡ body = sym (h.split ∙ append-nil h.front) in
     record {
@@ -40,15 +43,18 @@ marked_all n names body marks h =
     }
 
 -- the next line fails
-pub failing_line : (n : ℕ) (names : List (List ℕ)) (body : List WordLine) (marks : List ℕ) (line : WordLine) (left : List WordLine) (w : FileWhat) → HasMarked n names body marks (line ∷ left) → LineFailsBy n names line w → BodyFails n names body line.number w
+pub failing_line : (n : ℕ) (names : List (List ℕ)) (body : List WordLine) (marks : List ℕ) (line : WordLine) (left : List WordLine) (w : FileWhat)
+    → HasMarked n names body marks (line ∷ left) → LineFailsBy n names line w → BodyFails n names body line.number w
 failing_line n names body marks line left w h fails =
     record { front = h.front; line = line; more = left; split = h.split; right = h.right; fails = fails; here = refl }
 
 -- the declarations and the body together
-pub body_said : (n : ℕ) (lines : List WordLine) (names : List (List ℕ)) (body : List WordLine) (marks : List ℕ) → Declares lines names body → GivesMarks n names body marks → LinesSayLab n lines (record { names = names; marks = marks })
+pub body_said : (n : ℕ) (lines : List WordLine) (names : List (List ℕ)) (body : List WordLine) (marks : List ℕ) → Declares lines names body
+    → GivesMarks n names body marks → LinesSayLab n lines (record { names = names; marks = marks })
 body_said n lines names body marks d g = record { body = body; declares = d; right = g.right; marks = g.are }
 
-line_fault_holds : (n : ℕ) (lines : List WordLine) (end number : ℕ) (w : FileWhat) → HasFailingLine n lines number w → LinesHaveFault n lines end number w
+line_fault_holds : (n : ℕ) (lines : List WordLine) (end number : ℕ) (w : FileWhat) → HasFailingLine n lines number w
+    → LinesHaveFault n lines end number w
 line_fault_holds n lines end number what.Header h = absurd h.line.fails
 line_fault_holds n lines end number what.Name h = absurd h.line.fails
 line_fault_holds n lines end number what.RepeatedName h = absurd h.line.fails

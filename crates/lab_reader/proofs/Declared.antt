@@ -1,5 +1,6 @@
 -- Names that are declared one after another.
-use Rattle.std.proofs.Common.{◌≡◌, ◌≢◌, ℕ, ◌+◌, IsTrue, List, [], ◌∷◌, ◌++◌, length, ap, refl, sym, subst, ◌∙◌, append_assoc, append-nil, length-append, arith}
+use Rattle.std.proofs.Common.{◌≡◌, ◌≢◌, ℕ, ◌+◌, IsTrue, List, [], ◌∷◌, ◌++◌, length, ap, refl, sym, subst, ◌∙◌, append_assoc, append-nil}
+use Rattle.std.proofs.Common.{length-append, arith}
 use Rattle.std.specs.List.{Contains}
 use Rattle.std.proofs.lemmas.List.Elements.{All-nil, All-push, Contains-get_or}
 use Rattle.std.proofs.lemmas.List.Quantifiers.{all_pairs_push}
@@ -23,7 +24,8 @@ names_more names word are fresh =
     let long : length (names ++ word ∷ []) ≡ length names + 1 = length-append names (word ∷ []) in
     record {
       each = All-push (λ w. IsTrue (is_name w)) names word are.each fresh.is_name;
-      distinct = all_pairs_push ◌≢◌ names word are.distinct (λ k d l e. fresh.is_new (subst (Contains names) e (Contains-get_or names k d l)));
+      distinct =
+          all_pairs_push ◌≢◌ names word are.distinct (λ k d l e. fresh.is_new (subst (Contains names) e (Contains-get_or names k d l)));
       few = omega (arith, are.few, fresh.room);
     }
 
@@ -37,7 +39,8 @@ pub record HasTaken (names words now left : List (List ℕ)) : Type 0 where
 pub taken_none : (names words : List (List ℕ)) → AreNames names → HasTaken names words names words
 taken_none names words right = record { earlier = []; split = refl; are = sym (append-nil names); right = right }
 
-pub taken_more : (names words now left : List (List ℕ)) (word : List ℕ) → HasTaken names words now (word ∷ left) → IsFreshName now word → HasTaken names words (now ++ word ∷ []) left
+pub taken_more : (names words now left : List (List ℕ)) (word : List ℕ) → HasTaken names words now (word ∷ left) → IsFreshName now word
+    → HasTaken names words (now ++ word ∷ []) left
 taken_more names words now left word h fresh = record {
   earlier = h.earlier ++ word ∷ [];
   split = h.split ∙ sym (append_assoc h.earlier (word ∷ []) left);
@@ -50,7 +53,8 @@ pub taken_all : (names words now : List (List ℕ)) → HasTaken names words now
 taken_all names words now h = h.are ∙ ap (λ z. names ++ z) (sym (h.split ∙ append-nil h.earlier))
 
 -- the next word fails
-pub taken_fails : (names words now left : List (List ℕ)) (word : List ℕ) (fault : FileWhat) → HasTaken names words now (word ∷ left) → NameFailsBy now word fault → HasFailingWord names words fault
+pub taken_fails : (names words now left : List (List ℕ)) (word : List ℕ) (fault : FileWhat) → HasTaken names words now (word ∷ left)
+    → NameFailsBy now word fault → HasFailingWord names words fault
 taken_fails names words now left word fault h fails = record {
   earlier = h.earlier;
   word = word;

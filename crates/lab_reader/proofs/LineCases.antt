@@ -1,5 +1,6 @@
 -- Each line gives a state labels, or fails by one check.
-use Rattle.std.proofs.Common.{◌≡◌, ℕ, zero, suc, ◌+◌, ◌*◌, ◌/◌, ◌^◌, ◌<◌, ◌==◌, ◌↔◌, inl, inr, IsTrue, Bool, true, false, cond, List, [], ◌∷◌, length, get_or, Decides, ap, refl, sym, subst, ◌∙◌, arith}
+use Rattle.std.proofs.Common.{◌≡◌, ℕ, zero, suc, ◌+◌, ◌*◌, ◌/◌, ◌^◌, ◌<◌, ◌==◌, ◌↔◌, inl, inr, IsTrue, Bool, true, false, cond, List, []}
+use Rattle.std.proofs.Common.{◌∷◌, length, get_or, Decides, ap, refl, sym, subst, ◌∙◌, arith}
 use Rattle.std.specs.Int.{bit_at}
 use Rattle.std.specs.List.{All, Contains, list_all}
 use Rattle.std.proofs.Math.Nat.{pow-suc}
@@ -71,7 +72,8 @@ all_among names labels = list_all (λ label. among names label) labels
 
 labels_decide : (names labels : List (List ℕ)) → Decides (all_among names labels) (All (Contains names) labels)
 labels_decide names labels =
-    Decides-by_and (λ label. among names label) (Contains names) (λ ls. all_among names ls) (λ label. among_decides names label) refl (λ _ _. refl) labels
+    Decides-by_and (λ label. among names label) (Contains names) (λ ls. all_among names ls) (λ label. among_decides names label) refl
+    (λ _ _. refl) labels
 
 -- the mask of labels, from the first name on
 unfoldable pub mask_of : List (List ℕ) → List (List ℕ) → ℕ
@@ -102,7 +104,8 @@ mask_of_is (name ∷ names) labels =
       bits = bits_are name names labels m h.bits;
     }
   where
-    bits_are : (name : List ℕ) (names labels : List (List ℕ)) (m : ℕ) → ((j : ℕ) → j < length names → IsTrue (bit_at m j == 1) ↔ Contains labels (get_or names j []))
+    bits_are : (name : List ℕ) (names labels : List (List ℕ)) (m : ℕ)
+        → ((j : ℕ) → j < length names → IsTrue (bit_at m j == 1) ↔ Contains labels (get_or names j []))
         → (j : ℕ) → j < length (name ∷ names) → IsTrue (bit_at (cond (among labels name) 1 0 + 2 * m) j == 1) ↔ Contains labels (get_or (name ∷ names) j [])
     bits_are name names labels m h zero l =
         let low = low_bit (among labels name) m in
@@ -146,7 +149,9 @@ by_number n names (Number state labels) = by_tests state (mask_of names labels) 
 pub line_case : ℕ → List (List ℕ) → WordLine → LineCase
 line_case n names line = by_number n names (number_case line)
 
-with_tests : (n : ℕ) (names : List (List ℕ)) (line : WordLine) (state : ℕ) (labels : List (List ℕ)) (a b : Bool) → BeginsWithNumber line state labels → is_state n state ≡ a → all_among names labels ≡ b → line_case n names line ≡ by_tests state (mask_of names labels) a b
+with_tests : (n : ℕ) (names : List (List ℕ)) (line : WordLine) (state : ℕ) (labels : List (List ℕ)) (a b : Bool)
+    → BeginsWithNumber line state labels → is_state n state ≡ a → all_among names labels ≡ b
+    → line_case n names line ≡ by_tests state (mask_of names labels) a b
 unfolding line_case
 with_tests n names line state labels a b h e f =
     let mask = mask_of names labels in
@@ -154,19 +159,25 @@ with_tests n names line state labels a b h e f =
     ∙ ap (λ z. by_tests state mask z (all_among names labels)) e
     ∙ ap (λ z. by_tests state mask a z) f
 
-pub line_case_is : (n : ℕ) (names : List (List ℕ)) (line : WordLine) (c : LineCase) → IsLineCase n names line c → line_case n names line ≡ c
+pub line_case_is : (n : ℕ) (names : List (List ℕ)) (line : WordLine) (c : LineCase) → IsLineCase n names line c
+    → line_case n names line ≡ c
 unfolding line_case
 line_case_is n names line (Good state mask) h =
-    with_tests n names line state h.labels true true h.is.begins ((state_decides n state).1 h.is.is_state) ((labels_decide names h.labels).1 h.is.declared)
+    with_tests n names line state h.labels true true h.is.begins ((state_decides n state).1 h.is.is_state)
+    ((labels_decide names h.labels).1 h.is.declared)
     ∙ ap (λ z. Good state z) (one_mask names h.labels (mask_of names h.labels) mask (mask_of_is names h.labels) h.mask_is)
 line_case_is n names line (Wrong what.Word) h = ap (by_number n names) (number_case_is line NoNumber h)
 line_case_is n names line (Wrong what.StateRange) h =
-    with_tests n names line h.state h.others false (all_among names h.others) h.begins (false_from_ne_true (is_state n h.state) (λ t. h.outside ((state_decides n h.state).0 t))) refl
+    with_tests n names line h.state h.others false (all_among names h.others) h.begins
+    (false_from_ne_true (is_state n h.state) (λ t. h.outside ((state_decides n h.state).0 t))) refl
 line_case_is n names line (Wrong what.Undeclared) h =
-    with_tests n names line h.state h.labels true false h.begins ((state_decides n h.state).1 h.is_state) (false_from_ne_true (all_among names h.labels) (λ t. h.undeclared ((labels_decide names h.labels).0 t)))
+    with_tests n names line h.state h.labels true false h.begins ((state_decides n h.state).1 h.is_state)
+    (false_from_ne_true (all_among names h.labels) (λ t. h.undeclared ((labels_decide names h.labels).0 t)))
 line_case_is n names line (Wrong other) h = absurd h
 
-tests_hold : (n : ℕ) (names : List (List ℕ)) (line : WordLine) (state : ℕ) (labels : List (List ℕ)) (a b : Bool) → BeginsWithNumber line state labels → is_state n state ≡ a → all_among names labels ≡ b → IsLineCase n names line (by_tests state (mask_of names labels) a b)
+tests_hold : (n : ℕ) (names : List (List ℕ)) (line : WordLine) (state : ℕ) (labels : List (List ℕ)) (a b : Bool)
+    → BeginsWithNumber line state labels → is_state n state ≡ a → all_among names labels ≡ b
+    → IsLineCase n names line (by_tests state (mask_of names labels) a b)
 tests_hold n names line state labels false b h e f =
     record { state = state; others = labels; begins = h; outside = λ s. both_ways (is_state n state) e ((state_decides n state).1 s) }
 tests_hold n names line state labels true false h e f =
@@ -177,9 +188,11 @@ tests_hold n names line state labels true true h e f = record {
   mask_is = mask_of_is names labels;
 }
 
-number_holds : (n : ℕ) (names : List (List ℕ)) (line : WordLine) (c : NumberCase) → IsNumberCase line c → IsLineCase n names line (by_number n names c)
+number_holds : (n : ℕ) (names : List (List ℕ)) (line : WordLine) (c : NumberCase) → IsNumberCase line c
+    → IsLineCase n names line (by_number n names c)
 number_holds n names line NoNumber h = h
-number_holds n names line (Number state labels) h = tests_hold n names line state labels (is_state n state) (all_among names labels) h refl refl
+number_holds n names line (Number state labels) h =
+    tests_hold n names line state labels (is_state n state) (all_among names labels) h refl refl
 
 pub line_case_holds : (n : ℕ) (names : List (List ℕ)) (line : WordLine) → IsLineCase n names line (line_case n names line)
 unfolding line_case

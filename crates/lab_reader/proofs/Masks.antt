@@ -1,10 +1,12 @@
 -- Masks of labels: bit j for name j.
-use Rattle.std.proofs.Common.{◌≡◌, ℕ, ◌*◌, ◌%◌, ◌^◌, ◌<◌, ◌==◌, inl, inr, IsTrue, List, [], ◌∷◌, ◌++◌, length, get_or, ap, refl, sym, subst, ◌∙◌, append_assoc, append-nil, arith, bit_or, w64}
+use Rattle.std.proofs.Common.{◌≡◌, ℕ, ◌*◌, ◌%◌, ◌^◌, ◌<◌, ◌==◌, inl, inr, IsTrue, List, [], ◌∷◌, ◌++◌, length, get_or, ap, refl, sym}
+use Rattle.std.proofs.Common.{subst, ◌∙◌, append_assoc, append-nil, arith, bit_or, w64}
 use Rattle.std.specs.Int.{bit_at}
 use Rattle.std.specs.List.{All, Contains}
 use Rattle.std.proofs.Math.Pow.{pow-lt}
 use Rattle.std.proofs.lemmas.Bool.{cases_eq, cases_order, eqb-true, eq-eqb}
-use Rattle.std.proofs.lemmas.List.Elements.{All-nil, All-push, All-contains, Contains-get_or, Contains-append_left, Contains-append_right, Contains-push, Contains-push_cases}
+use Rattle.std.proofs.lemmas.List.Elements.{All-nil, All-push, All-contains, Contains-get_or, Contains-append_left, Contains-append_right}
+use Rattle.std.proofs.lemmas.List.Elements.{Contains-push, Contains-push_cases}
 use Rattle.std.proofs.lemmas.Nat.{or_lt, pow_pos}
 use Rattle.std.proofs.lemmas.Nat.Bits.{bit_at-zero, bit_at_set_same, bit_at_set_other}
 use Rattle.lab_reader.specs.Declarations.{AreNames}
@@ -28,7 +30,8 @@ mask_none names = record {
 }
 
 -- names at two places differ
-place_is_one : (names : List (List ℕ)) (i j : ℕ) → AreNames names → i < length names → j < length names → get_or names i [] ≡ get_or names j [] → i ≡ j
+place_is_one : (names : List (List ℕ)) (i j : ℕ) → AreNames names → i < length names → j < length names
+    → get_or names i [] ≡ get_or names j [] → i ≡ j
 place_is_one names i j are l k e =
     elim (cases_order i j) [
       | inl same ↦ same
@@ -39,7 +42,8 @@ place_is_one names i j are l k e =
     ]
 
 -- one label more, which is the name at this place
-pub mask_more : (names labels : List (List ℕ)) (label : List ℕ) (mask place : ℕ) → AreNames names → IsMaskOf names labels mask → place < length names → get_or names place [] ≡ label → IsMaskOf names (labels ++ label ∷ []) (bit_or mask (1 * 2 ^ place % 2 ^ 64))
+pub mask_more : (names labels : List (List ℕ)) (label : List ℕ) (mask place : ℕ) → AreNames names → IsMaskOf names labels mask
+    → place < length names → get_or names place [] ≡ label → IsMaskOf names (labels ++ label ∷ []) (bit_or mask (1 * 2 ^ place % 2 ^ 64))
 mask_more names labels label mask place are h l is =
     let small : place < 64 = omega (arith, are.few) in
     let power : 2 ^ place < 2 ^ length names = pow-lt l in
@@ -50,7 +54,9 @@ mask_more names labels label mask place are h l is =
       bits = λ j k. (
         λ t. elim (cases_eq j place) [
           | inl same ↦ subst (Contains (labels ++ label ∷ [])) (sym (ap name same ∙ is)) (Contains-push labels label)
-          | inr other ↦ Contains-append_left labels (label ∷ []) (name j) ((h.bits j k).0 (bit_on mask j (sym (bit_at_set_other w64 mask place small j other) ∙ on_bit now j t)))
+          | inr other ↦
+              Contains-append_left labels (label ∷ []) (name j)
+              ((h.bits j k).0 (bit_on mask j (sym (bit_at_set_other w64 mask place small j other) ∙ on_bit now j t)))
         ],
         λ t. elim (cases_eq j place) [
           | inl same ↦ bit_on now j (subst (λ z. bit_at now z ≡ 1) (sym same) (bit_at_set_same w64 mask place small))
@@ -72,7 +78,9 @@ pub record HasMasked (names all : List (List ℕ)) (mask : ℕ) (left : List (Li
 pub masked_none : (names all : List (List ℕ)) → HasMasked names all 0 all
 masked_none names all = record { earlier = []; split = refl; declared = All-nil (Contains names); mask_is = mask_none names }
 
-pub masked_more : (names all left : List (List ℕ)) (label : List ℕ) (mask place : ℕ) → AreNames names → HasMasked names all mask (label ∷ left) → place < length names → get_or names place [] ≡ label → HasMasked names all (bit_or mask (1 * 2 ^ place % 2 ^ 64)) left
+pub masked_more : (names all left : List (List ℕ)) (label : List ℕ) (mask place : ℕ) → AreNames names
+    → HasMasked names all mask (label ∷ left) → place < length names → get_or names place [] ≡ label
+    → HasMasked names all (bit_or mask (1 * 2 ^ place % 2 ^ 64)) left
 masked_more names all left label mask place are h l is = record {
   earlier = h.earlier ++ label ∷ [];
   split = h.split ∙ sym (append_assoc h.earlier (label ∷ []) left);
@@ -86,6 +94,8 @@ masked_all names all mask h =
     (subst (All (Contains names)) same h.declared, subst (λ z. IsMaskOf names z mask) same h.mask_is)
 
 -- the next label isn't declared
-pub masked_fails : (names all left : List (List ℕ)) (label : List ℕ) (mask : ℕ) → HasMasked names all mask (label ∷ left) → ¬ Contains names label → ¬ All (Contains names) all
+pub masked_fails : (names all left : List (List ℕ)) (label : List ℕ) (mask : ℕ) → HasMasked names all mask (label ∷ left)
+    → ¬ Contains names label → ¬ All (Contains names) all
 masked_fails names all left label mask h none declared =
-    none (All-contains (Contains names) all label declared (subst (λ z. Contains z label) (sym h.split) (Contains-append_right h.earlier (label ∷ left) label (0, omega arith, refl))))
+    none
+    (All-contains (Contains names) all label declared (subst (λ z. Contains z label) (sym h.split) (Contains-append_right h.earlier (label ∷ left) label (0, omega arith, refl))))

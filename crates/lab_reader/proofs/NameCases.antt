@@ -1,5 +1,6 @@
 -- Each word is a name that can be declared, or fails by one check; and so the words of a line.
-use Rattle.std.proofs.Common.{◌≡◌, ℕ, ◌<◌, ◌==◌, IsTrue, Bool, true, false, List, [], ◌∷◌, ◌++◌, length, get_or, Decides, ap, refl, sym, subst, ◌∙◌, append_assoc, append-nil, length-append, arith}
+use Rattle.std.proofs.Common.{◌≡◌, ℕ, ◌<◌, ◌==◌, IsTrue, Bool, true, false, List, [], ◌∷◌, ◌++◌, length, get_or, Decides, ap, refl, sym}
+use Rattle.std.proofs.Common.{subst, ◌∙◌, append_assoc, append-nil, length-append, arith}
 use Rattle.std.specs.Prelude.{bytes_eq}
 use Rattle.std.specs.List.{Contains, list_any}
 use Rattle.std.proofs.Math.Seq.{get_or-append_seam}
@@ -52,7 +53,8 @@ pub name_case : List (List ℕ) → List ℕ → NameCase
 name_case names word = by_tests (is_name word) (among names word) (is_full names)
 
 -- the tests have these answers
-tests_are : (names : List (List ℕ)) (word : List ℕ) (a b c : Bool) → is_name word ≡ a → among names word ≡ b → is_full names ≡ c → name_case names word ≡ by_tests a b c
+tests_are : (names : List (List ℕ)) (word : List ℕ) (a b c : Bool) → is_name word ≡ a → among names word ≡ b → is_full names ≡ c
+    → name_case names word ≡ by_tests a b c
 unfolding name_case
 tests_are names word a b c e f g =
     ap (λ z. by_tests z (among names word) (is_full names)) e ∙ ap (λ z. by_tests a z (is_full names)) f ∙ ap (λ z. by_tests a b z) g
@@ -71,7 +73,8 @@ name_case_is names word (Bad what.LabelsRange) h =
     tests_are names word true false true h.0 (among_none names word h.1) (eq-eqb (length names) MOST_LABELS h.2)
 name_case_is names word (Bad other) h = absurd h
 
-tests_hold : (names : List (List ℕ)) (word : List ℕ) (a b c : Bool) → is_name word ≡ a → among names word ≡ b → is_full names ≡ c → IsNameCase names word (by_tests a b c)
+tests_hold : (names : List (List ℕ)) (word : List ℕ) (a b c : Bool) → is_name word ≡ a → among names word ≡ b → is_full names ≡ c
+    → IsNameCase names word (by_tests a b c)
 tests_hold names word false b c e f g = both_ways (is_name word) e
 tests_hold names word true true c e f g = (e, (among_decides names word).0 f)
 tests_hold names word true false true e f g =
@@ -105,11 +108,13 @@ run_words names (word ∷ words) =
       | Bad w ↦ Stops w
     ]
 
-run_fresh : (names : List (List ℕ)) (word : List ℕ) (words : List (List ℕ)) → name_case names word ≡ Fresh → run_words names (word ∷ words) ≡ run_words (names ++ word ∷ []) words
+run_fresh : (names : List (List ℕ)) (word : List ℕ) (words : List (List ℕ)) → name_case names word ≡ Fresh
+    → run_words names (word ∷ words) ≡ run_words (names ++ word ∷ []) words
 unfolding run_words
 run_fresh names word words e = rw (e, run_words) refl
 
-run_bad : (names : List (List ℕ)) (word : List ℕ) (words : List (List ℕ)) (w : FileWhat) → name_case names word ≡ Bad w → run_words names (word ∷ words) ≡ Stops w
+run_bad : (names : List (List ℕ)) (word : List ℕ) (words : List (List ℕ)) (w : FileWhat) → name_case names word ≡ Bad w
+    → run_words names (word ∷ words) ≡ Stops w
 unfolding run_words
 run_bad names word words w e = rw (e, run_words) refl
 
@@ -125,13 +130,16 @@ fresh_at names word words h =
     record {
       is_name = subst (λ z. IsTrue (is_name z)) here (h.each (length names) [] long);
       is_new = λ (k, l, e).
-          let before : get_or (names ++ word ∷ words) k [] ≡ word = get_or_append_left names (word ∷ words) [] k l ∙ get_or_default names k [] word l ∙ e in
+          let before : get_or (names ++ word ∷ words) k [] ≡ word =
+          get_or_append_left names (word ∷ words) [] k l ∙ get_or_default names k [] word l ∙ e
+          in
           h.distinct k (length names) [] l long (before ∙ sym here);
       room = λ full. omega (arith, h.few, full, long);
     }
 
 -- right words are declared
-pub words_front : (names earlier rest : List (List ℕ)) → AreNames (names ++ earlier) → run_words names (earlier ++ rest) ≡ run_words (names ++ earlier) rest
+pub words_front : (names earlier rest : List (List ℕ)) → AreNames (names ++ earlier)
+    → run_words names (earlier ++ rest) ≡ run_words (names ++ earlier) rest
 words_front names [] rest h = ap (λ z. run_words z rest) (sym (append-nil names))
 words_front names (word ∷ words) rest h =
     let joined = append_assoc names (word ∷ []) words in

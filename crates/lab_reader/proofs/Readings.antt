@@ -35,11 +35,13 @@ run n names marks (line ∷ lines) =
       | Wrong w ↦ Faults line.number w
     ]
 
-run_good : (n : ℕ) (names : List (List ℕ)) (marks : List ℕ) (line : WordLine) (lines : List WordLine) (state mask : ℕ) → line_case n names line ≡ Good state mask → run n names marks (line ∷ lines) ≡ run n names (marks_with marks state mask) lines
+run_good : (n : ℕ) (names : List (List ℕ)) (marks : List ℕ) (line : WordLine) (lines : List WordLine) (state mask : ℕ)
+    → line_case n names line ≡ Good state mask → run n names marks (line ∷ lines) ≡ run n names (marks_with marks state mask) lines
 unfolding run
 run_good n names marks line lines state mask e = rw (e, run) refl
 
-run_wrong : (n : ℕ) (names : List (List ℕ)) (marks : List ℕ) (line : WordLine) (lines : List WordLine) (w : FileWhat) → line_case n names line ≡ Wrong w → run n names marks (line ∷ lines) ≡ Faults line.number w
+run_wrong : (n : ℕ) (names : List (List ℕ)) (marks : List ℕ) (line : WordLine) (lines : List WordLine) (w : FileWhat)
+    → line_case n names line ≡ Wrong w → run n names marks (line ∷ lines) ≡ Faults line.number w
 unfolding run
 run_wrong n names marks line lines w e = rw (e, run) refl
 
@@ -52,7 +54,8 @@ record LeadsOn (n : ℕ) (names : List (List ℕ)) (marks : List ℕ) (lines mor
   now : List ℕ
   leads : run n names marks lines ≡ run n names now more
 
-lines_front : (n : ℕ) (names : List (List ℕ)) (marks : List ℕ) (front more : List WordLine) → All (IsSomeLabelLine n names) front → LeadsOn n names marks (front ++ more) more
+lines_front : (n : ℕ) (names : List (List ℕ)) (marks : List ℕ) (front more : List WordLine) → All (IsSomeLabelLine n names) front
+    → LeadsOn n names marks (front ++ more) more
 lines_front n names marks [] more right = record { now = marks; leads = refl }
 lines_front n names marks (line ∷ lines) more right =
     let h = All-head (IsSomeLabelLine n names) line lines right in
@@ -71,7 +74,8 @@ module _ (n : ℕ) (lines : List WordLine) (end : ℕ) (names : List (List ℕ))
       → (c : LineCase) → line_case n names line ≡ c → Holds n lines end (run n names marks (line ∷ left))
   at_line marks line left h next (Good state mask) is =
       let g : GivesMask n names line state mask = subst (IsLineCase n names line) is (line_case_holds n names line) in
-      subst (Holds n lines end) (sym (run_good n names marks line left state mask is)) (next (marks_with marks state mask) (marked_more n names body marks line left state mask h g))
+      subst (Holds n lines end) (sym (run_good n names marks line left state mask is))
+      (next (marks_with marks state mask) (marked_more n names body marks line left state mask h g))
   at_line marks line left h next (Wrong w) is =
       let fails : LineFailsBy n names line w = subst (IsLineCase n names line) is (line_case_holds n names line) in
       subst (Holds n lines end) (sym (run_wrong n names marks line left w is))
@@ -100,11 +104,13 @@ reading_holds : (n : ℕ) (lines : List WordLine) (end : ℕ) → Holds n lines 
 unfolding reading
 reading_holds n lines end = head_reads n lines end (head_case lines end) (head_holds n lines end)
 
-after_head : (n : ℕ) (lines : List WordLine) (end : ℕ) (names : List (List ℕ)) (body : List WordLine) → Declares lines names body → reading n lines end ≡ run n names (replicate n 0) body
+after_head : (n : ℕ) (lines : List WordLine) (end : ℕ) (names : List (List ℕ)) (body : List WordLine) → Declares lines names body
+    → reading n lines end ≡ run n names (replicate n 0) body
 unfolding reading
 after_head n lines end names body d = ap (by_head n) (head_is lines end names body d)
 
-no_head : (n : ℕ) (lines : List WordLine) (end number : ℕ) (w : FileWhat) → head_case lines end ≡ NoHead number w → reading n lines end ≡ Faults number w
+no_head : (n : ℕ) (lines : List WordLine) (end number : ℕ) (w : FileWhat) → head_case lines end ≡ NoHead number w
+    → reading n lines end ≡ Faults number w
 unfolding reading
 no_head n lines end number w e = ap (by_head n) e
 
@@ -124,7 +130,8 @@ says_some n lines end lab h =
           ∙ run_ends n lab.names on.now;
     }
 
-failing_is : (n : ℕ) (lines : List WordLine) (end number : ℕ) (w : FileWhat) → HasFailingLine n lines number w → reading n lines end ≡ Faults number w
+failing_is : (n : ℕ) (lines : List WordLine) (end number : ℕ) (w : FileWhat) → HasFailingLine n lines number w
+    → reading n lines end ≡ Faults number w
 failing_is n lines end number w h =
     let body = h.line in
     let on = lines_front n h.names (replicate n 0) body.front (body.line ∷ body.more) body.right in
@@ -134,11 +141,14 @@ failing_is n lines end number w h =
     ∙ run_wrong n h.names on.now body.line body.more w (line_case_is n h.names body.line (Wrong w) body.fails)
     ∙ ap (λ z. Faults z w) (sym body.here)
 
-fault_is : (n : ℕ) (lines : List WordLine) (end number : ℕ) (w : FileWhat) → LinesHaveFault n lines end number w → reading n lines end ≡ Faults number w
+fault_is : (n : ℕ) (lines : List WordLine) (end number : ℕ) (w : FileWhat) → LinesHaveFault n lines end number w
+    → reading n lines end ≡ Faults number w
 fault_is n lines end number what.Header h = no_head n lines end number what.Header (header_lacks n lines end number h)
 fault_is n lines end number what.Name h = no_head n lines end number what.Name (name_fails lines end number what.Name h)
-fault_is n lines end number what.RepeatedName h = no_head n lines end number what.RepeatedName (name_fails lines end number what.RepeatedName h)
-fault_is n lines end number what.LabelsRange h = no_head n lines end number what.LabelsRange (name_fails lines end number what.LabelsRange h)
+fault_is n lines end number what.RepeatedName h =
+    no_head n lines end number what.RepeatedName (name_fails lines end number what.RepeatedName h)
+fault_is n lines end number what.LabelsRange h =
+    no_head n lines end number what.LabelsRange (name_fails lines end number what.LabelsRange h)
 fault_is n lines end number other h = failing_is n lines end number other h
 
 -- ---- so there is one reading
@@ -154,7 +164,9 @@ one_lab n lines a b h k =
     let heads = sym (head_is lines 0 a.names h.body h.declares) ∙ head_is lines 0 b.names k.body k.declares in
     let names : a.names ≡ b.names = same_names a.names b.names h.body k.body heads in
     let bodies : h.body ≡ k.body = same_body a.names b.names h.body k.body heads in
-    let here : AreMarks n b.names k.body a.marks = subst (λ z. AreMarks n z k.body a.marks) names (subst (λ z. AreMarks n a.names z a.marks) bodies h.marks) in
+    let here : AreMarks n b.names k.body a.marks =
+    subst (λ z. AreMarks n z k.body a.marks) names (subst (λ z. AreMarks n a.names z a.marks) bodies h.marks)
+    in
     let marks : a.marks ≡ b.marks = one_marks n b.names k.body a.marks b.marks here k.marks in
     ap (λ z. labels_of z a.marks) names ∙ ap (labels_of b.names) marks
 

@@ -1,4 +1,5 @@
--- The declarations of a `.lab` file: the names that stand between the lines `#DECLARATION` and `#END`. Lines that are blank don't count here.
+-- The declarations of a `.lab` file: the names that stand between the lines `#DECLARATION` and `#END`. Lines that are blank don't count
+-- here.
 use Rattle.std.specs.Prelude.{◌≡◌, ◌≢◌, ℕ, ◌≤◌, IsTrue, List, [], ◌∷◌, ◌++◌, length, All, AllPairs, codes}
 use Rattle.std.specs.List.{flat_map}
 use Rattle.model_core.specs.declared.limits.TheConstants.{MOST_LABELS}

@@ -6,7 +6,8 @@ use Rattle.text_lines.specs.WordLines.{WordLine, word_lines_of}
 use Rattle.lab_reader.specs.Declarations.{Declares}
 use Rattle.lab_reader.specs.LabelLines.{IsSomeLabelLine, GivesLabel}
 
--- there is a mark for each state, no mark is of a label that isn't declared, and a state, numbered from 0, has a label exactly where a line of
+-- there is a mark for each state, no mark is of a label that isn't declared, and a state, numbered from 0, has a label exactly where a
+-- line of
 -- the body gives it
 pub record AreMarks (n : ℕ) (names : List (List ℕ)) (body : List WordLine) (marks : List ℕ) : Type 0 where
   pub each : length marks ≡ n

@@ -15,7 +15,9 @@ use Rattle.model_core.proofs.Order.{row_of-ascends, row_of-leaves, IsNonDecreasi
 
 -- the transitions are in order of the states that they leave
 pub from_ascends : (model : ModelLists) → IsModel model → IsNonDecreasingBy (λ r. r.from) model.rates
-from_ascends model m = IsNonDecreasingBy-from_numbers model.n model.rates m.tra.few_states m.tra.transitions (IsNonDecreasingBy-from_order model.rates m.order)
+from_ascends model m =
+    IsNonDecreasingBy-from_numbers model.n model.rates m.tra.few_states m.tra.transitions
+    (IsNonDecreasingBy-from_order model.rates m.order)
 
 -- each transition leads to a state
 pub to_within : (model : ModelLists) → IsModel model → All (λ r. r.to < model.n) model.rates
@@ -40,13 +42,15 @@ row_of-IsRow model s m = record {
 }
 
 -- the same of an equal row of an equal model
-pub IsRow-at : (inside model : ModelLists) (s : ℕ) (row rates : List Rate) → inside ≡ model → IsModel inside → rates ≡ inside.rates → row ≡ row_of rates s → IsRow model s row
+pub IsRow-at : (inside model : ModelLists) (s : ℕ) (row rates : List Rate) → inside ≡ model → IsModel inside → rates ≡ inside.rates
+    → row ≡ row_of rates s → IsRow model s row
 IsRow-at inside model s row rates same m from e =
     subst (λ (all : ModelLists). IsRow all s row) same
     (subst (λ (part : List Rate). IsRow inside s part) (sym (e ∙ ap (λ all. row_of all s) from)) (row_of-IsRow inside s m))
 
 -- transitions in another order are a chain's as well
-pub IsTra-IsPermutation : (n scale : ℕ) (xs ys : List Rate) → IsPermutation xs ys → IsTra (record { n = n; scale = scale; rates = xs }) → IsTra (record { n = n; scale = scale; rates = ys })
+pub IsTra-IsPermutation : (n scale : ℕ) (xs ys : List Rate) → IsPermutation xs ys → IsTra (record { n = n; scale = scale; rates = xs })
+    → IsTra (record { n = n; scale = scale; rates = ys })
 IsTra-IsPermutation n scale xs ys moved tra = record {
   some_state = tra.some_state;
   few_states = tra.few_states;

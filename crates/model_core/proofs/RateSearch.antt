@@ -1,5 +1,6 @@
 -- The rate between two states, by a search for the number of the pair.
-use Rattle.std.proofs.Common.{◌≡◌, ◌≢◌, ℕ, zero, suc, ◌<◌, ◌≤◌, ◌==◌, ◌&&◌, ◌^◌, Bool, true, false, cond, List, [], ◌∷◌, length, get_or, sum_by, inl, inr, refl, sym, ◌∙◌, ap, subst, eq-eqb, arith}
+use Rattle.std.proofs.Common.{◌≡◌, ◌≢◌, ℕ, zero, suc, ◌<◌, ◌≤◌, ◌==◌, ◌&&◌, ◌^◌, Bool, true, false, cond, List, [], ◌∷◌, length, get_or}
+use Rattle.std.proofs.Common.{sum_by, inl, inr, refl, sym, ◌∙◌, ap, subst, eq-eqb, arith}
 use Rattle.std.specs.List.{AllPairs, HoldsAt}
 use Rattle.std.specs.List.Sorted.{IsNonDecreasingBy, IsPartitionPoint}
 use Rattle.std.specs.Ordering.{MatchOrdering, nat_cmp, ordering_index}
@@ -23,10 +24,14 @@ module _ {X : Type 0} (f : X → ℕ) where
   sum_by-none (x ∷ xs) h = omega (arith, sum_by-cons f x xs, h 0 x (omega arith), sum_by-none xs (λ k d l. h (suc k) d (omega arith)))
 
   -- a sum in which one place alone is not 0
-  pub sum_by-one : (xs : List X) (i : ℕ) (d : X) → i < length xs → ((k : ℕ) (e : X) → k < length xs → k ≢ i → f (get_or xs k e) ≡ 0) → sum_by f xs ≡ f (get_or xs i d)
+  pub sum_by-one : (xs : List X) (i : ℕ) (d : X) → i < length xs → ((k : ℕ) (e : X) → k < length xs → k ≢ i → f (get_or xs k e) ≡ 0)
+      → sum_by f xs ≡ f (get_or xs i d)
   sum_by-one [] i d l h = absurd (omega arith)
-  sum_by-one (x ∷ xs) zero d l h = omega (arith, sum_by-cons f x xs, sum_by-none xs (λ k e b. h (suc k) e (omega arith) (λ same. omega (arith, same))))
-  sum_by-one (x ∷ xs) (suc i) d l h = omega (arith, sum_by-cons f x xs, h 0 x (omega arith) (λ same. omega (arith, same)), sum_by-one xs i d (omega arith) (λ k e b other. h (suc k) e (omega arith) (λ same. other (omega (arith, same)))))
+  sum_by-one (x ∷ xs) zero d l h =
+      omega (arith, sum_by-cons f x xs, sum_by-none xs (λ k e b. h (suc k) e (omega arith) (λ same. omega (arith, same))))
+  sum_by-one (x ∷ xs) (suc i) d l h =
+      omega
+      (arith, sum_by-cons f x xs, h 0 x (omega arith) (λ same. omega (arith, same)), sum_by-one xs i d (omega arith) (λ k e b other. h (suc k) e (omega arith) (λ same. other (omega (arith, same)))))
 
 -- a number under two tests that pass
 where_both : (a b : Bool) (x : ℕ) → a ≡ true → b ≡ true → cond (a && b) x 0 ≡ x
@@ -50,17 +55,25 @@ other_pair : (r : Rate) (s t : ℕ) → pair_number r.from r.to ≢ pair_number 
 other_pair r s t other =
     elim (eqb_tells r.from s) [
       | inr not_from ↦ where_first_not (r.from == s) (r.to == t) r.rate not_from.0
-      | inl same_from ↦ where_second_not (r.from == s) (r.to == t) r.rate (ne_eqb r.to t (λ same_to. other (omega (arith, same_from.1, same_to))))
+      | inl same_from ↦
+          where_second_not (r.from == s) (r.to == t) r.rate (ne_eqb r.to t (λ same_to. other (omega (arith, same_from.1, same_to))))
     ]
 
 -- no transition between the two states
-pub rate_between-none : (rates : List Rate) (s t : ℕ) → ((k : ℕ) (d : Rate) → k < length rates → pair_number (get_or rates k d).from (get_or rates k d).to ≢ pair_number s t) → rate_between rates s t ≡ 0
-rate_between-none rates s t h = sum_by-none (λ (r : Rate). cond ((r.from == s) && (r.to == t)) r.rate 0) rates (λ k d l. other_pair (get_or rates k d) s t (h k d l))
+pub rate_between-none : (rates : List Rate) (s t : ℕ)
+    → ((k : ℕ) (d : Rate) → k < length rates → pair_number (get_or rates k d).from (get_or rates k d).to ≢ pair_number s t)
+    → rate_between rates s t ≡ 0
+rate_between-none rates s t h =
+    sum_by-none (λ (r : Rate). cond ((r.from == s) && (r.to == t)) r.rate 0) rates (λ k d l. other_pair (get_or rates k d) s t (h k d l))
 
 -- the transition between the two states
-pub rate_between-found : (rates : List Rate) (s t i : ℕ) (d : Rate) → AllPairs (λ x y. pair_number x.from x.to < pair_number y.from y.to) rates → i < length rates → (get_or rates i d).from ≡ s → (get_or rates i d).to ≡ t → rate_between rates s t ≡ (get_or rates i d).rate
+pub rate_between-found : (rates : List Rate) (s t i : ℕ) (d : Rate)
+    → AllPairs (λ x y. pair_number x.from x.to < pair_number y.from y.to) rates → i < length rates → (get_or rates i d).from ≡ s
+    → (get_or rates i d).to ≡ t → rate_between rates s t ≡ (get_or rates i d).rate
 rate_between-found rates s t i d order l from to =
-    let here : (e : Rate) → pair_number (get_or rates i e).from (get_or rates i e).to ≡ pair_number s t = λ e. rw (get_or_default rates i e d l, from, to) refl in
+    let here : (e : Rate) → pair_number (get_or rates i e).from (get_or rates i e).to ≡ pair_number s t =
+    λ e. rw (get_or_default rates i e d l, from, to) refl
+    in
     sum_by-one (λ (r : Rate). cond ((r.from == s) && (r.to == t)) r.rate 0) rates i d l
     (λ k e b other. other_pair (get_or rates k e) s t
     (elim (leb_tells k i) [
@@ -70,7 +83,8 @@ rate_between-found rates s t i d order l from to =
     ∙ where_both _ _ _ (eq-eqb _ _ from) (eq-eqb _ _ to)
 
 -- a greater number compares no lower
-index_rises : (a b v : ℕ) (r q : Ordering) → a ≤ b → MatchOrdering r (a < v) (a ≡ v) (v < a) → MatchOrdering q (b < v) (b ≡ v) (v < b) → ordering_index r ≤ ordering_index q
+index_rises : (a b v : ℕ) (r q : Ordering) → a ≤ b → MatchOrdering r (a < v) (a ≡ v) (v < a) → MatchOrdering q (b < v) (b ≡ v) (v < b)
+    → ordering_index r ≤ ordering_index q
 index_rises a b v Less q l h k = omega arith
 index_rises a b v Equal Less l h k = absurd (omega (arith, h, k))
 index_rises a b v Equal Equal l h k = omega arith
@@ -88,20 +102,26 @@ greater_differs : (a v : ℕ) → nat_cmp a v ≡ Greater → a ≢ v
 greater_differs a v e = let l : v < a = ranked a v Greater (sym e) in λ same. omega (arith, same)
 
 -- what a search for the number of a pair says of the rate between the two states
-pub rate_at_place : (model : ModelLists) (s t i : ℕ) (d : Rate) → IsModel model → t < 2 ^ 32 → i < length model.rates → HoldsAt (λ r. nat_cmp (pair_number r.from r.to) (pair_number s t) ≡ Equal) model.rates i → rate_between model.rates s t ≡ (get_or model.rates i d).rate
+pub rate_at_place : (model : ModelLists) (s t i : ℕ) (d : Rate) → IsModel model → t < 2 ^ 32 → i < length model.rates
+    → HoldsAt (λ r. nat_cmp (pair_number r.from r.to) (pair_number s t) ≡ Equal) model.rates i
+    → rate_between model.rates s t ≡ (get_or model.rates i d).rate
 rate_at_place model s t i d m small l found =
     let r : Rate = get_or model.rates i d in
     let same : pair_number r.from r.to ≡ pair_number s t = ranked (pair_number r.from r.to) (pair_number s t) Equal (sym (found d)) in
     let pair = pair_number-injective r.from r.to s t (omega (arith, (m.tra.transitions i d l).to_within, m.tra.few_states)) small same in
-    rate_between-found model.rates s t i d (AllPairs-from_rising (λ (x : Rate). pair_number x.from x.to) model.rates m.order) l pair.0 pair.1
+    rate_between-found model.rates s t i d
+    (AllPairs-from_rising (λ (x : Rate). pair_number x.from x.to) model.rates m.order) l pair.0 pair.1
 
 -- where the search finds no place, the rate is 0
-pub rate_at_none : (model : ModelLists) (s t i : ℕ) → IsModel model → (IsNonDecreasingBy (λ r. ordering_index (nat_cmp (pair_number r.from r.to) (pair_number s t))) model.rates → IsPartitionPoint (λ r. nat_cmp (pair_number r.from r.to) (pair_number s t) ≡ Less) (λ r. nat_cmp (pair_number r.from r.to) (pair_number s t) ≡ Greater) model.rates i) → rate_between model.rates s t ≡ 0
+pub rate_at_none : (model : ModelLists) (s t i : ℕ) → IsModel model
+    → (IsNonDecreasingBy (λ r. ordering_index (nat_cmp (pair_number r.from r.to) (pair_number s t))) model.rates → IsPartitionPoint (λ r. nat_cmp (pair_number r.from r.to) (pair_number s t) ≡ Less) (λ r. nat_cmp (pair_number r.from r.to) (pair_number s t) ≡ Greater) model.rates i)
+    → rate_between model.rates s t ≡ 0
 rate_at_none model s t i m searched =
     let number : ℕ = pair_number s t in
     let at : ℕ → Rate → ℕ = λ k d. pair_number (get_or model.rates k d).from (get_or model.rates k d).to in
     let point : IsPartitionPoint (λ (r : Rate). nat_cmp (pair_number r.from r.to) number ≡ Less) (λ (r : Rate). nat_cmp (pair_number r.from r.to) number ≡ Greater) model.rates i =
-    searched (λ k j d l b. index_rises (at k d) (at j d) number (nat_cmp (at k d) number) (nat_cmp (at j d) number) (IsNonDecreasingBy-from_order model.rates m.order k j d l b) (ranked (at k d) number _ refl) (ranked (at j d) number _ refl)) in
+    searched
+    (λ k j d l b. index_rises (at k d) (at j d) number (nat_cmp (at k d) number) (nat_cmp (at j d) number) (IsNonDecreasingBy-from_order model.rates m.order k j d l b) (ranked (at k d) number _ refl) (ranked (at j d) number _ refl)) in
     rate_between-none model.rates s t
     (λ k d b. elim (leb_tells i k) [
       | inl after ↦ greater_differs (at k d) number (point.1 k d after.1 b)
@@ -111,7 +131,9 @@ rate_at_none model s t i m searched =
 -- the same of lists and numbers that are equal to a model's
 module _ (inside model : ModelLists) (s t number : ℕ) (rates : List Rate) (same : inside ≡ model) (m : IsModel inside) (all : rates ≡ inside.rates) (is : number ≡ pair_number s t) where
   -- the search found the transition
-  pub found_rate : (i : ℕ) (r : Rate) → t < 2 ^ 32 → i < length rates → HoldsAt (λ x. nat_cmp (pair_number x.from x.to) number ≡ Equal) rates i → r ≡ get_or inside.rates i r → r.rate ≡ rate_between model.rates s t
+  pub found_rate : (i : ℕ) (r : Rate) → t < 2 ^ 32 → i < length rates
+      → HoldsAt (λ x. nat_cmp (pair_number x.from x.to) number ≡ Equal) rates i → r ≡ get_or inside.rates i r
+      → r.rate ≡ rate_between model.rates s t
   found_rate i r small l found here =
       let holds : HoldsAt (λ x. nat_cmp (pair_number x.from x.to) (pair_number s t) ≡ Equal) inside.rates i =
       subst (λ (n : ℕ). HoldsAt (λ x. nat_cmp (pair_number x.from x.to) n ≡ Equal) inside.rates i) is
@@ -121,8 +143,14 @@ module _ (inside model : ModelLists) (s t number : ℕ) (rates : List Rate) (sam
       ∙ ap (λ (lists : ModelLists). rate_between lists.rates s t) same
 
   -- the search found none
-  pub no_rate : (i : ℕ) → (IsNonDecreasingBy (λ r. ordering_index (nat_cmp (pair_number r.from r.to) number)) rates → IsPartitionPoint (λ r. nat_cmp (pair_number r.from r.to) number ≡ Less) (λ r. nat_cmp (pair_number r.from r.to) number ≡ Greater) rates i) → 0 ≡ rate_between model.rates s t
+  pub no_rate : (i : ℕ)
+      → (IsNonDecreasingBy (λ r. ordering_index (nat_cmp (pair_number r.from r.to) number)) rates → IsPartitionPoint (λ r. nat_cmp (pair_number r.from r.to) number ≡ Less) (λ r. nat_cmp (pair_number r.from r.to) number ≡ Greater) rates i)
+      → 0 ≡ rate_between model.rates s t
   no_rate i searched =
-      let claim : ℕ → List Rate → Type 0 = λ n xs. IsNonDecreasingBy (λ (r : Rate). ordering_index (nat_cmp (pair_number r.from r.to) n)) xs → IsPartitionPoint (λ (r : Rate). nat_cmp (pair_number r.from r.to) n ≡ Less) (λ (r : Rate). nat_cmp (pair_number r.from r.to) n ≡ Greater) xs i in
-      sym (rate_at_none inside s t i m (subst (λ (n : ℕ). claim n inside.rates) is (subst (λ (xs : List Rate). claim number xs) all searched)))
+      let claim : ℕ → List Rate → Type 0 =
+      λ n xs. IsNonDecreasingBy (λ (r : Rate). ordering_index (nat_cmp (pair_number r.from r.to) n)) xs → IsPartitionPoint
+      (λ (r : Rate). nat_cmp (pair_number r.from r.to) n ≡ Less) (λ (r : Rate). nat_cmp (pair_number r.from r.to) n ≡ Greater) xs i
+      in
+      sym
+      (rate_at_none inside s t i m (subst (λ (n : ℕ). claim n inside.rates) is (subst (λ (xs : List Rate). claim number xs) all searched)))
       ∙ ap (λ (lists : ModelLists). rate_between lists.rates s t) same

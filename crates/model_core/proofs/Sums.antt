@@ -1,5 +1,6 @@
 -- Sums over the numbers below a bound, and sums over lists.
-use Rattle.std.proofs.Common.{◌≡◌, ◌≢◌, ℕ, zero, suc, ◌+◌, ◌<◌, Bool, true, false, cond, List, [], ◌∷◌, filter, sum_by, inl, inr, refl, ap, arith}
+use Rattle.std.proofs.Common.{◌≡◌, ◌≢◌, ℕ, zero, suc, ◌+◌, ◌<◌, Bool, true, false, cond, List, [], ◌∷◌, filter, sum_by, inl, inr, refl, ap}
+use Rattle.std.proofs.Common.{arith}
 use Rattle.std.proofs.lemmas.List.Sums.{sum_by-cons}
 use Rattle.std.proofs.lemmas.Bool.Decides.{eqb_tells}
 use Rattle.ctmc_semantics.specs.Sum.{sum_below}
@@ -29,11 +30,13 @@ sum_below-one (suc n) k f l h =
     ]
 
 -- one element more, which a filter keeps or drops
-pub sum_by-kept : {X : Type 0} (f : X → ℕ) (x : X) (xs : List X) (keeps : Bool) → sum_by f (cond keeps (x ∷ xs) xs) ≡ cond keeps (f x) 0 + sum_by f xs
+pub sum_by-kept : {X : Type 0} (f : X → ℕ) (x : X) (xs : List X) (keeps : Bool)
+    → sum_by f (cond keeps (x ∷ xs) xs) ≡ cond keeps (f x) 0 + sum_by f xs
 sum_by-kept f x xs true = sum_by-cons f x xs
 sum_by-kept f x xs false = omega arith
 
 -- a sum over what a filter keeps
 pub sum_by-filter : {X : Type 0} (f : X → ℕ) (p : X → Bool) (xs : List X) → sum_by f (filter p xs) ≡ sum_by (λ x. cond (p x) (f x) 0) xs
 sum_by-filter f p [] = refl
-sum_by-filter f p (x ∷ xs) = omega (arith, sum_by-kept f x (filter p xs) (p x), sum_by-cons (λ x. cond (p x) (f x) 0) x xs, sum_by-filter f p xs)
+sum_by-filter f p (x ∷ xs) =
+    omega (arith, sum_by-kept f x (filter p xs) (p x), sum_by-cons (λ x. cond (p x) (f x) 0) x xs, sum_by-filter f p xs)

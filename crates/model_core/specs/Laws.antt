@@ -12,7 +12,9 @@ ExitRateIsExitSum = (n : ℕ) (rates : List Rate) (s : ℕ) → All (λ r. r.to 
 -- the rate from a state into a set of states is the sum over the state's row, where each transition leads to one of
 -- the n states
 abbrev pub RateIntoIsRowSum : Type 0
-RateIntoIsRowSum = (n : ℕ) (rates : List Rate) (goal : ℕ → Bool) (s : ℕ) → All (λ r. r.to < n) rates → rate_into (chain_of n rates) goal s ≡ sum_into goal (row_of rates s)
+RateIntoIsRowSum =
+    (n : ℕ) (rates : List Rate) (goal : ℕ → Bool) (s : ℕ) → All (λ r. r.to < n) rates → rate_into (chain_of n rates) goal s ≡ sum_into goal
+    (row_of rates s)
 
 -- the same transitions in another order make the same chain
 abbrev pub OrderMakesNoOtherChain : Type 0

@@ -1,5 +1,6 @@
 -- A chain as the list of its transitions.
-use Rattle.std.specs.Prelude.{◌≡◌, ℕ, Bool, ◌≤◌, ◌&&◌, ◌==◌, if◌then◌else◌, List, map, filter, sum_by, count_by, nat_lt, slice_index, EachIndex}
+use Rattle.std.specs.Prelude.{◌≡◌, ℕ, Bool, ◌≤◌, ◌&&◌, ◌==◌, if◌then◌else◌, List, map, filter, sum_by, count_by, nat_lt, slice_index}
+use Rattle.std.specs.Prelude.{EachIndex}
 use Rattle.std.specs.List.Sorted.{IsStrictlyIncreasing}
 use Rattle.ctmc_semantics.specs.Chain.{Chain}
 use Rattle.model_core.specs.Pairs.{pair_number}

@@ -9,6 +9,7 @@ ghost use Rattle.model_core.specs.Transitions.{chain_of, rate_between, row_of, s
 ghost use Rattle.model_core.specs.Files.{IsTransition};
 ghost use Rattle.model_core.specs.Model.{ModelLists, IsModel, IsBuiltOf, HasRowStarts, has_label};
 
+use crate::limits::{AMOUNT_LIMIT, MOST_LABELS, MOST_STATES};
 use crate::rate::pair_number;
 use crate::{Lab, Rate, Rew, Tra};
 use std::alloc::{AllocError, Global};
@@ -64,7 +65,7 @@ impl Model {
     pub fn n(&self) -> u32
         ensures value { result ≡ self.now.n }
         ensures some { 1 ≤ result }
-        ensures few { result ≤ 65536 }
+        ensures few { result ≤ MOST_STATES }
         ensures lists { IsModel self.now }
     {
         self.n
@@ -85,7 +86,7 @@ impl Model {
         ensures ascending { IsStrictlyIncreasing (map (λ r. r.to) result.now) }
         ensures transitions { All (IsTransition self.now.n) result.now }
         ensures of_state { All (λ r. r.from ≡ s) result.now }
-        ensures bound { sum_by (λ r. r.rate) result.now < 2 ^ 63 }
+        ensures bound { sum_by (λ r. r.rate) result.now < AMOUNT_LIMIT }
         ensures rates_into { (goal : ℕ → Bool) → sum_into goal result.now ≡ rate_into (chain_of self.now.n self.now.rates) goal s }
     {
         row_of(&self.rates, &self.starts, s as usize)
@@ -111,7 +112,7 @@ impl Model {
     pub fn exit(&self, s: u32) -> u64
         requires { s < self.now.n }
         ensures value { result ≡ exit_rate (chain_of self.now.n self.now.rates) s }
-        ensures bound { result < 2 ^ 63 }
+        ensures bound { result < AMOUNT_LIMIT }
     {
         rate_sum(self.row(s))
     }
@@ -119,7 +120,7 @@ impl Model {
     /// The names of the labels, in their order: label j is the name at place j.
     pub fn labels(&self) -> &[Name]
         ensures names { result.now ≡ self.now.names }
-        ensures few { length result.now ≤ 64 }
+        ensures few { length result.now ≤ MOST_LABELS }
     {
         &self.names
     }
@@ -145,7 +146,7 @@ impl Model {
         requires rewards { IsSome self.now.rewards }
         requires state { s < self.now.n }
         ensures value { IfSome self.now.rewards (λ rew. result ≡ slice_index rew.rewards s) }
-        ensures bound { result < 2 ^ 63 }
+        ensures bound { result < AMOUNT_LIMIT }
     {
         match &self.rew {
             Some(rew) => rew.reward(s as usize),
@@ -177,7 +178,7 @@ fn in_order(mut rates: Vec<Rate>) -> Vec<Rate>
 
 // Where each state's row begins among the transitions in order, and at last how many transitions there are.
 fn row_starts(alloc: Global, rates: &[Rate], n: u32) -> Result<Vec<usize>, AllocError>
-    requires states { n ≤ 65536 }
+    requires states { n ≤ MOST_STATES }
     requires order { IsNonDecreasingBy (λ (r : Rate). r.from) rates.now }
     ensures long { IfOk result (λ starts. length starts.items ≡ n + 1) }
     ensures begins { IfOk result (λ starts. AreRowStarts rates.now starts.items) }

@@ -2,6 +2,7 @@
 ghost use Rattle.std.specs.Prelude.{◌≡◌, ◌<◌, ◌^◌, length, slice_index};
 ghost use Rattle.model_core.specs.Files.{RewLists, IsRew};
 
+use crate::limits::AMOUNT_LIMIT;
 use std::marker::Model;
 
 /// Rewards, one for each state: with scale e a reward q stands for `q / 10^e` for each unit of time in the state.
@@ -32,7 +33,7 @@ impl Rew {
     pub(crate) fn reward(&self, s: usize) -> u64
         requires { s < length self.now.rewards }
         ensures value { result ≡ slice_index self.now.rewards s }
-        ensures bound { result < 2 ^ 63 }
+        ensures bound { result < AMOUNT_LIMIT }
     {
         self.rewards[s]
     }

@@ -3,6 +3,7 @@ ghost use Rattle.std.specs.Prelude.{◌≡◌, ◌≤◌};
 ghost use Rattle.model_core.specs.Files.{TraLists, IsTra};
 
 use crate::Rate;
+use crate::limits::MOST_STATES;
 use std::marker::Model;
 
 /// A chain: its states are the numbers from 0 to n - 1, for n from 1 to 65,536, and its rates have `scale` decimals.
@@ -35,7 +36,7 @@ impl Tra {
     pub fn n(&self) -> u32
         ensures value { result ≡ self.now.n }
         ensures some { 1 ≤ result }
-        ensures few { result ≤ 65536 }
+        ensures few { result ≤ MOST_STATES }
         ensures lists { IsTra self.now }
     {
         self.n

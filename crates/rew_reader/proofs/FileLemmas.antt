@@ -1,5 +1,5 @@
 -- What the entries of a file say of its rewards.
-use Rattle.std.proofs.Common.{◌≡◌, ℕ, ◌<◌, ◌≤◌, List, map, take, get_or, sym, subst, ◌∙◌, arith}
+use Rattle.std.proofs.Common.{◌≡◌, ℕ, ap, ◌<◌, ◌≤◌, List, map, take, get_or, sym, subst, ◌∙◌, arith}
 use Rattle.std.specs.List.{All, range_with_len}
 use Rattle.std.proofs.lemmas.List.Elements.{All-map}
 use Rattle.std.proofs.lemmas.List.Quantifiers.{Any-push}
@@ -20,9 +20,11 @@ use Rattle.rew_reader.specs.RewText.{AreWithin, HasTooLarge, reward_of, LinesSay
 use Rattle.rew_reader.proofs.RewardSums.{reward_of-below}
 
 -- the states of the entries are below n, from 0
-pub states_below : (n : ℕ) (lines : List WordLine) (es : List (EntryLine ℕ)) → AreRead (reward_lines n) state_number lines es → All (λ e. e.key < n) es
+pub states_below : (n : ℕ) (lines : List WordLine) (es : List (EntryLine ℕ)) → AreRead (reward_lines n) state_number lines es
+    → All (λ e. e.key < n) es
 states_below n lines es h =
-    zip_right (IsEntryLine (reward_lines n) state_number) (λ e. e.key < n) (λ line e is. omega (arith, is.is.key.in_range.1)) lines es h.each
+    zip_right (IsEntryLine (reward_lines n) state_number) (λ e. e.key < n)
+    (λ line e is. omega (arith, is.is.key.in_range.1)) lines es h.each
 
 module _ (n scale : ℕ) (lines : List WordLine) (es : List (EntryLine ℕ)) (rewards : List ℕ) where
   -- the rewards of entries that were read, at their scale
@@ -57,12 +59,25 @@ module _ (n scale : ℕ) (lines : List WordLine) (es : List (EntryLine ℕ)) (re
     rewards = h.are;
   }
 
+-- where the lists that the steps saw are the one that was read
+pub made : (n scale : ℕ) (lines : List WordLine) (es a b d : List (EntryLine ℕ)) (rewards : List ℕ)
+    → AreRead (reward_lines n) state_number lines es
+    → a ≡ es → b ≡ es → d ≡ es → scale ≡ greatest_decimals (map value_of a) → All (IsInRange scale) b
+    → rewards ≡ map (reward_of scale (entries_of state_number d)) (range_with_len 0 n) → AreRewardsOf n scale lines es rewards
+made n scale lines es a b d rewards read p q r scale_is within are = record {
+  read = read;
+  scale_is = scale_is ∙ ap (λ z. greatest_decimals (map value_of z)) p;
+  within = subst (All (IsInRange scale)) q within;
+  are = are ∙ ap (λ z. map (reward_of scale (entries_of state_number z)) (range_with_len 0 n)) r;
+}
+
 -- how the code writes the element past a list's end
 abbrev pub no_entry : EntryLine ℕ
 no_entry = record { line = 0; digits = 0; decimals = 0; key = 0 }
 
 -- the first entry whose reward is too large is the first that goes past the limit
-pub first_past : (scale place : ℕ) (es : List (EntryLine ℕ)) → IsFirstLarge scale es place → IsFirstPast state_number (AreWithin scale) (HasTooLarge scale) es place
+pub first_past : (scale place : ℕ) (es : List (EntryLine ℕ)) → IsFirstLarge scale es place
+    → IsFirstPast state_number (AreWithin scale) (HasTooLarge scale) es place
 first_past scale place es h = record {
   there = h.there;
   within = All-map (λ e. scaled scale e.value < AMOUNT_LIMIT) (entry_of state_number) (take place es) h.before;
@@ -71,7 +86,8 @@ first_past scale place es h = record {
 }
 
 -- so it is on the line that does
-pub line_large : (n scale place : ℕ) (lines : List WordLine) (es : List (EntryLine ℕ)) (d : EntryLine ℕ) → AreRead (reward_lines n) state_number lines es
+pub line_large : (n scale place : ℕ) (lines : List WordLine) (es : List (EntryLine ℕ)) (d : EntryLine ℕ)
+    → AreRead (reward_lines n) state_number lines es
     → scale ≡ greatest_decimals (map value_of es) → IsFirstLarge scale es place → HasLinePast (reward_lines n) AreWithin HasTooLarge lines (get_or es place d).line
 line_large n scale place lines es d read is h =
     line_past (reward_lines n) state_number AreWithin HasTooLarge lines es place d read

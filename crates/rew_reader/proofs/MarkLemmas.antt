@@ -1,8 +1,10 @@
 -- Which states have an entry.
-use Rattle.std.proofs.Common.{◌≡◌, ◌≢◌, ℕ, ◌+◌, ◌<◌, inl, inr, Bool, true, false, List, [], ◌∷◌, ◌++◌, length, set, replicate, get_or, sym, ap, subst, ◌∙◌, arith}
+use Rattle.std.proofs.Common.{◌≡◌, ◌≢◌, ℕ, ◌+◌, ◌<◌, inl, inr, Bool, true, false, List, [], ◌∷◌, ◌++◌, length, set, replicate, get_or, sym}
+use Rattle.std.proofs.Common.{ap, subst, ◌∙◌, arith}
 use Rattle.std.specs.List.{AllPairs, Contains}
 use Rattle.std.proofs.lemmas.Bool.{cases_eq, cases_lt, both_ways}
-use Rattle.std.proofs.lemmas.List.{map-append, get_or-set_same, get_or-set_other, length-set, length-replicate, get_or-replicate, get_or_past}
+use Rattle.std.proofs.lemmas.List.{map-append, get_or-set_same, get_or-set_other, length-set, length-replicate, get_or-replicate}
+use Rattle.std.proofs.lemmas.List.{get_or_past}
 use Rattle.std.proofs.lemmas.List.Elements.{Contains-append_left, Contains-append_right, Contains-push_cases}
 use Rattle.model_core.specs.StateNumber.{state_number}
 use Rattle.text_lines.proofs.EntryRuns.{distinct_push}
@@ -57,14 +59,19 @@ marks-more n entries marks e within h =
       marked = λ s m. subst (λ z. Contains z (s + 1)) (sym (pushed entries e)) (elim (cases_eq s state) [
         | inl same ↦ Contains-append_right (states entries) ((e.key + 1) ∷ []) (s + 1) (0, omega arith, omega (arith, same))
         | inr other ↦
-            Contains-append_left (states entries) ((e.key + 1) ∷ []) (s + 1) (h.marked s (sym (get_or-set_other marks state s true false other) ∙ m))
+            Contains-append_left (states entries) ((e.key + 1) ∷ []) (s + 1)
+            (h.marked s (sym (get_or-set_other marks state s true false other) ∙ m))
       ]);
       unmarked = λ s l u. subst (λ z. ¬ Contains z (s + 1)) (sym (pushed entries e)) (elim (cases_eq s state) [
         | inl same ↦
-            let here : get_or (set marks state true) s false ≡ true = subst (λ z. get_or (set marks state true) z false ≡ true) (sym same) (get_or-set_same marks state true false (omega (arith, h.long))) in
+            let here : get_or (set marks state true) s false ≡ true =
+            subst (λ z. get_or (set marks state true) z false ≡ true) (sym same)
+            (get_or-set_same marks state true false (omega (arith, h.long)))
+            in
             absurd (both_ways (get_or (set marks state true) s false) u here)
         | inr other ↦
-            not_pushed (states entries) (e.key + 1) (s + 1) (h.unmarked s l (sym (get_or-set_other marks state s true false other) ∙ u)) (λ same. other (omega (arith, same)))
+            not_pushed (states entries) (e.key + 1) (s + 1) (h.unmarked s l (sym (get_or-set_other marks state s true false other) ∙ u))
+            (λ same. other (omega (arith, same)))
       ]);
     }
   where

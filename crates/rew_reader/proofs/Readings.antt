@@ -22,7 +22,8 @@ abbrev first_large : ℕ → List WordLine → List StateReward → Option ℕ
 first_large d lines entries = first_past (AreWithin d) (HasTooLarge d) (reward_limit d) [] lines entries
 
 -- a line that is wrong is a fault of the lines
-pub failing : (n : ℕ) (lines : List WordLine) (k : ℕ) (w : FileWhat) → HasFailingLine (reward_lines n) lines k w → LinesHaveFault n lines k w
+pub failing : (n : ℕ) (lines : List WordLine) (k : ℕ) (w : FileWhat) → HasFailingLine (reward_lines n) lines k w
+    → LinesHaveFault n lines k w
 failing n lines k what.RewardScale h = absurd h.fails
 failing n lines k other h = h
 
@@ -69,7 +70,8 @@ module _ (n : ℕ) (lines : List WordLine) where
       let d = scale_of entries in
       after_lines (Right entries) h.are
       ∙ ap (λ z. by_scale entries (first_large d z entries)) h.split
-      ∙ ap (by_scale entries) (past_is (AreWithin d) (HasTooLarge d) (reward_limit d) [] h.earlier h.line h.later h.before h.entry h.after h.place h.within h.past)
+      ∙ ap (by_scale entries)
+      (past_is (AreWithin d) (HasTooLarge d) (reward_limit d) [] h.earlier h.line h.later h.before h.entry h.after h.place h.within h.past)
       ∙ ap (λ z. Faults z what.RewardScale) (sym h.here)
 
   fault_is : (number : ℕ) (w : FileWhat) → LinesHaveFault n lines number w → reading ≡ Faults number w
@@ -97,7 +99,8 @@ module _ (n : ℕ) (lines : List WordLine) where
     here = h.here;
   }
 
-  lines_hold : (c : LinesCase ℕ) → IsLinesCase (reward_lines n) lines c → IsReading (LinesSayRew n lines) (LinesHaveFault n lines) (by_lines c)
+  lines_hold : (c : LinesCase ℕ) → IsLinesCase (reward_lines n) lines c
+      → IsReading (LinesSayRew n lines) (LinesHaveFault n lines) (by_lines c)
   lines_hold (Wrong number w) h = failing n lines number w h
   lines_hold (Right entries) h =
       let d = scale_of entries in

@@ -1,5 +1,6 @@
 -- The limit of the rewards, one entry after another.
-use Rattle.std.proofs.Common.{◌≡◌, ℕ, ◌+◌, ◌<◌, ◌≤◌, inl, inr, true, nat_lt, List, [], ◌∷◌, ◌++◌, length, get_or, sym, subst, ap, ◌∙◌, length-append, arith}
+use Rattle.std.proofs.Common.{◌≡◌, ℕ, ◌+◌, ◌<◌, ◌≤◌, inl, inr, true, nat_lt, List, [], ◌∷◌, ◌++◌, length, get_or, sym, subst, ap, ◌∙◌}
+use Rattle.std.proofs.Common.{length-append, arith}
 use Rattle.std.proofs.Math.Seq.{get_or-append_seam}
 use Rattle.std.proofs.lemmas.Bool.{cases_lt, lt-ltb, le-ltb, ltb-true, ltb-false}
 use Rattle.std.proofs.lemmas.List.{get_or_append_left}
@@ -15,13 +16,15 @@ module _ (scale : ℕ) where
   abbrev reward_at : StateReward → ℕ
   reward_at e = scaled scale e.value
 
-  front_fits : (es : List StateReward) (e : StateReward) (fs : List StateReward) → AreWithin scale (es ++ e ∷ fs) → nat_lt (reward_at e) AMOUNT_LIMIT ≡ true
+  front_fits : (es : List StateReward) (e : StateReward) (fs : List StateReward) → AreWithin scale (es ++ e ∷ fs)
+      → nat_lt (reward_at e) AMOUNT_LIMIT ≡ true
   front_fits es e fs h =
       let long : length es < length (es ++ e ∷ fs) = simp length-append (omega arith) in
       lt-ltb (reward_at e) AMOUNT_LIMIT (subst (λ z. reward_at z < AMOUNT_LIMIT) (get_or-append_seam es e fs e) (h (length es) e long))
 
   -- a reward that is too large is the last where those before it are not
-  last_large : (es : List StateReward) (e : StateReward) → AreWithin scale es → HasTooLarge scale (es ++ e ∷ []) → AMOUNT_LIMIT ≤ reward_at e
+  last_large : (es : List StateReward) (e : StateReward) → AreWithin scale es → HasTooLarge scale (es ++ e ∷ [])
+      → AMOUNT_LIMIT ≤ reward_at e
   last_large es e h large =
       let k = large.0 in
       let x = large.1 in

@@ -1,5 +1,6 @@
 -- The rewards of the states at the scale, one entry after another.
-use Rattle.std.proofs.Common.{◌≡◌, ◌≢◌, ℕ, ◌+◌, ◌<◌, ◌≤◌, cond, List, [], ◌∷◌, length, map, take, set, replicate, get_or, inl, inr, refl, sym, ap, subst, ◌∙◌, arith}
+use Rattle.std.proofs.Common.{◌≡◌, ◌≢◌, ℕ, ◌+◌, ◌<◌, ◌≤◌, cond, List, [], ◌∷◌, length, map, take, set, replicate, get_or, inl, inr, refl}
+use Rattle.std.proofs.Common.{sym, ap, subst, ◌∙◌, arith}
 use Rattle.std.specs.Bool.{◌==◌}
 use Rattle.std.specs.List.{AllPairs, sum_by, range_with_len}
 use Rattle.std.proofs.lemmas.Bool.{cases_eq, eq-eqb, ne_eqb}
@@ -52,7 +53,8 @@ reward_of-new scale (e ∷ es) s new =
     omega (arith, sum_by-cons (pick scale s) e es, first, rest)
 
 -- the reward of a state is that of its entry, or 0
-pub reward_of-below : (scale : ℕ) (es : List StateReward) (s : ℕ) → AllPairs ◌≢◌ (keys_of es) → AreWithin scale es → reward_of scale es s < AMOUNT_LIMIT
+pub reward_of-below : (scale : ℕ) (es : List StateReward) (s : ℕ) → AllPairs ◌≢◌ (keys_of es) → AreWithin scale es
+    → reward_of scale es s < AMOUNT_LIMIT
 reward_of-below scale [] s once h = omega arith
 reward_of-below scale (e ∷ es) s once h =
     let Within : StateReward → Type 0 = λ e. scaled scale e.value < AMOUNT_LIMIT in
@@ -92,7 +94,9 @@ rewards-more scale n es i d rewards reward within below once is h =
             let none = reward_of-new scale (entries (take i es)) state (new_before state_number es i d within once) in
             let added = pick-here scale state (entry_of state_number e) refl in
             let put = get_or-set_same rewards state reward 0 (omega (arith, h.long, below)) in
-            let here : get_or (set rewards state reward) state 0 ≡ reward_of scale (entries (take (i + 1) es)) state = omega (arith, more, none, added, put, is) in
+            let here : get_or (set rewards state reward) state 0 ≡ reward_of scale (entries (take (i + 1) es)) state =
+            omega (arith, more, none, added, put, is)
+            in
             subst (λ z. get_or (set rewards state reward) z 0 ≡ reward_of scale (entries (take (i + 1) es)) z) (sym same) here
         | inr other ↦
             let more = reward_of-more scale es i d s within in

@@ -1,4 +1,5 @@
 pub mod RewardLines
 pub mod RewText
 pub mod RewFault
+-- what the reader's own functions say
 pub mod Reading

@@ -7,7 +7,8 @@ use Rattle.text_lines.specs.declared.fault.FileWhat.TheVariants as what
 use Rattle.rew_reader.specs.RewardLines.{reward_lines}
 use Rattle.rew_reader.specs.RewText.{AreWithin, HasTooLarge}
 
--- the lines of a text have this fault at the line of this number: all are right, and the reward of this one is the first that is too large,
+-- the lines of a text have this fault at the line of this number: all are right, and the reward of this one is the first that is too
+-- large,
 -- or this is the first line that is wrong
 abbrev pub LinesHaveFault : ℕ → List WordLine → ℕ → FileWhat → Type 0
 LinesHaveFault n lines number what.RewardScale = HasLinePast (reward_lines n) AreWithin HasTooLarge lines number

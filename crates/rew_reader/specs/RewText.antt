@@ -20,7 +20,8 @@ HasTooLarge scale entries = Any (λ e. AMOUNT_LIMIT ≤ scaled scale e.value) en
 abbrev pub reward_of : ℕ → List StateReward → ℕ → ℕ
 reward_of scale entries s = sum_by (λ e. if e.key == s + 1 then scaled scale e.value else 0) entries
 
--- the lines stand for the rewards: each line is of a state that has no other, the rewards are taken at the greatest number of decimals, and
+-- the lines stand for the rewards: each line is of a state that has no other, the rewards are taken at the greatest number of decimals,
+-- and
 -- none is `2^63` or more
 pub record LinesSayRew (n : ℕ) (lines : List WordLine) (rew : RewLists) : Type 0 where
   pub entries : List StateReward

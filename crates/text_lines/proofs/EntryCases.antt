@@ -105,12 +105,14 @@ module _ {Key : Type 0} (kind : Kind Key) (is : IsDecided kind) where
       ∙ cond-true (is.in_range key) _ _ ((is.range_decides key).1 h.in_range)
 
   -- a line that writes an entry
-  with_entry : (entries : List (Entry Key)) (line : WordLine) (e : Entry Key) → IsEntry kind line e → line_case entries line ≡ if_new entries e
+  with_entry : (entries : List (Entry Key)) (line : WordLine) (e : Entry Key) → IsEntry kind line e
+      → line_case entries line ≡ if_new entries e
   with_entry entries line e h =
       with_key entries line e.key h.word h.key ∙ ap (by_word entries e.key) (word_case_is h.word (Writes e.value) h.value)
 
   -- a line is one thing only
-  pub line_case_is : (entries : List (Entry Key)) (line : WordLine) (c : LineCase Key) → IsLineCase kind entries line c → line_case entries line ≡ c
+  pub line_case_is : (entries : List (Entry Key)) (line : WordLine) (c : LineCase Key) → IsLineCase kind entries line c
+      → line_case entries line ≡ c
   unfolding line_case
   line_case_is entries line (Good e) h =
       with_entry entries line e h.0
@@ -122,11 +124,13 @@ module _ {Key : Type 0} (kind : Kind Key) (is : IsDecided kind) where
   line_case_is entries line (Bad (what.Number fault)) h =
       with_key entries line h.key h.word h.has ∙ ap (by_word entries h.key) (word_case_is h.word (Lacks fault) h.is)
   line_case_is entries line (Bad what.Repeated) h =
-      with_entry entries line h.entry h.is ∙ cond-true (is_old entries h.entry) _ _ ((has_decides (keys_of entries) h.entry.key).1 h.earlier)
+      with_entry entries line h.entry h.is
+      ∙ cond-true (is_old entries h.entry) _ _ ((has_decides (keys_of entries) h.entry.key).1 h.earlier)
   line_case_is entries line (Bad other) h = absurd h
 
   -- a line that writes an entry, which is new or not
-  new_or_not : (entries : List (Entry Key)) (line : WordLine) (e : Entry Key) → IsEntry kind line e → IsLineCase kind entries line (if_new entries e)
+  new_or_not : (entries : List (Entry Key)) (line : WordLine) (e : Entry Key) → IsEntry kind line e
+      → IsLineCase kind entries line (if_new entries e)
   new_or_not entries line e h =
       elim (cases_Bool (is_old entries e)) [
         | inl t ↦
@@ -137,12 +141,15 @@ module _ {Key : Type 0} (kind : Kind Key) (is : IsDecided kind) where
             (h, not_from_Decides (is_old entries e) (has_decides (keys_of entries) e.key) f)
       ]
 
-  value_or_fault : (entries : List (Entry Key)) (line : WordLine) (key : Key) (word : List ℕ) (w : WordCase) → HasKey kind line key word → IsWordCase word w
+  value_or_fault : (entries : List (Entry Key)) (line : WordLine) (key : Key) (word : List ℕ) (w : WordCase) → HasKey kind line key word
+      → IsWordCase word w
       → IsLineCase kind entries line (by_word entries key w)
   value_or_fault entries line key word (Lacks fault) h k = record { key = key; word = word; has = h; is = k }
-  value_or_fault entries line key word (Writes d) h k = new_or_not entries line (written key d) (record { word = word; key = h; value = k })
+  value_or_fault entries line key word (Writes d) h k =
+      new_or_not entries line (written key d) (record { word = word; key = h; value = k })
 
-  key_or_not : (entries : List (Entry Key)) (line : WordLine) (c : KeyCase Key) → IsKeyCase kind line c → IsLineCase kind entries line (by_key entries c)
+  key_or_not : (entries : List (Entry Key)) (line : WordLine) (c : KeyCase Key) → IsKeyCase kind line c
+      → IsLineCase kind entries line (by_key entries c)
   key_or_not entries line NoKey h = h
   key_or_not entries line (SomeKey key word) h =
       let right = by_word entries key (word_case word) in
@@ -150,7 +157,11 @@ module _ {Key : Type 0} (kind : Kind Key) (is : IsDecided kind) where
       elim (cases_Bool (is.in_range key)) [
         | inl t ↦
             subst (IsLineCase kind entries line) (sym (cond-true (is.in_range key) right wrong t))
-            (value_or_fault entries line key word (word_case word) (record { writes = h; in_range = (is.range_decides key).0 t }) (word_case_holds word))
+            (value_or_fault entries line key word (word_case word) (record {
+              writes =
+                  h;
+              in_range = (is.range_decides key).0 t;
+            }) (word_case_holds word))
         | inr f ↦
             subst (IsLineCase kind entries line) (sym (cond-false (is.in_range key) right wrong f))
             (record { key = key; word = word; writes = h; outside = not_from_Decides (is.in_range key) (is.range_decides key) f })

@@ -1,5 +1,6 @@
 -- Entries that were read, with the numbers of their lines.
-use Rattle.std.proofs.Common.{◌≡◌, ◌≢◌, ℕ, zero, suc, ◌+◌, ◌<◌, ◌≤◌, List, [], ◌∷◌, ◌++◌, length, map, take, drop, get_or, refl, sym, ap, subst, ◌∙◌, append_assoc, append-nil, arith}
+use Rattle.std.proofs.Common.{◌≡◌, ◌≢◌, ℕ, zero, suc, ◌+◌, ◌<◌, ◌≤◌, List, [], ◌∷◌, ◌++◌, length, map, take, drop, get_or, refl, sym, ap}
+use Rattle.std.proofs.Common.{subst, ◌∙◌, append_assoc, append-nil, arith}
 use Rattle.std.specs.List.{All, AllPairs, AllZip, Contains}
 use Rattle.std.proofs.lemmas.List.{take-append-drop, drop_more, map-append, length-map, length-take, get_or-map}
 use Rattle.std.proofs.lemmas.List.Elements.{All-nil, All-cons, All-map}
@@ -25,7 +26,8 @@ zip_long R (x ∷ xs) [] h = absurd h
 zip_long R (x ∷ xs) (y ∷ ys) h = ap suc (zip_long R xs ys h.1)
 
 -- what each of the second has, since one of the first has R to it
-pub zip_right : {A B : Type 0} (R : A → B → Type 0) (P : B → Type 0) → ((x : A) (y : B) → R x y → P y) → (xs : List A) (ys : List B) → AllZip R xs ys → All P ys
+pub zip_right : {A B : Type 0} (R : A → B → Type 0) (P : B → Type 0) → ((x : A) (y : B) → R x y → P y) → (xs : List A) (ys : List B)
+    → AllZip R xs ys → All P ys
 zip_right R P f [] [] h = All-nil P
 zip_right R P f [] (y ∷ ys) h = absurd h
 zip_right R P f (x ∷ xs) [] h = absurd h
@@ -41,7 +43,8 @@ pub record SplitsAt {A B : Type 0} (R : A → B → Type 0) (xs : List A) (ys : 
   pub here : (d : B) → R x (get_or ys k d)
   pub long : length before ≡ k
 
-pub split_at : {A B : Type 0} (R : A → B → Type 0) (xs : List A) (ys : List B) (k : ℕ) → AllZip R xs ys → k < length ys → SplitsAt R xs ys k
+pub split_at : {A B : Type 0} (R : A → B → Type 0) (xs : List A) (ys : List B) (k : ℕ) → AllZip R xs ys → k < length ys
+    → SplitsAt R xs ys k
 split_at R [] [] k h l = absurd (omega arith)
 split_at R [] (y ∷ ys) k h l = absurd h
 split_at R (x ∷ xs) [] k h l = absurd h
@@ -78,7 +81,8 @@ new_before {K} {Key} key_of es place d within once =
 -- ---- the scale
 
 -- the decimals of an entry that a line writes
-few_decimals : {Key : Type 0} (kind : Kind Key) (lines : List WordLine) (entries : List (Entry Key)) → AllZip (IsEntry kind) lines entries → scale_of entries ≤ 18
+few_decimals : {Key : Type 0} (kind : Kind Key) (lines : List WordLine) (entries : List (Entry Key)) → AllZip (IsEntry kind) lines entries
+    → scale_of entries ≤ 18
 few_decimals {Key} kind lines entries h =
     greatest_within 18 (map (λ e. e.value) entries)
     (All-map (λ (d : DecimalNumber). d.x ≤ 18) (λ (e : Entry Key). e.value) entries
@@ -89,7 +93,8 @@ pub within_scale_of : {K : Type 0} (es : List (EntryLine K)) → All (λ e. e.de
 within_scale_of {K} es k d l =
     let scale = greatest_decimals (map value_of es) in
     let all : All (λ d. d.x ≤ scale) (map value_of es) = within_scale scale (map value_of es) (omega arith) in
-    subst (λ (z : DecimalNumber). z.x ≤ scale) (get_or-map value_of es k d (value_of d) l) (all k (value_of d) (omega (arith, l, length-map es value_of)))
+    subst (λ (z : DecimalNumber). z.x ≤ scale) (get_or-map value_of es k d (value_of d) l)
+    (all k (value_of d) (omega (arith, l, length-map es value_of)))
 
 module _ {K Key : Type 0} (kind : Kind Key) (key_of : K → Key) where
   -- the scale of kept entries is that of the entries
@@ -106,7 +111,8 @@ module _ {K Key : Type 0} (kind : Kind Key) (key_of : K → Key) where
   read_none lines = record { front = []; split = refl; are = tt }
 
   -- and then one more
-  pub read_more : (lines more others : List WordLine) (entries : List (EntryLine K)) (line : WordLine) (e : EntryLine K) → HasRead kind key_of lines entries more
+  pub read_more : (lines more others : List WordLine) (entries : List (EntryLine K)) (line : WordLine) (e : EntryLine K)
+      → HasRead kind key_of lines entries more
       → more ≡ line ∷ others → IsEntryLine kind key_of line e → HasRead kind key_of lines (entries ++ e ∷ []) others
   read_more lines more others entries line e h first is = record {
     front = h.front ++ line ∷ [];
@@ -118,26 +124,31 @@ module _ {K Key : Type 0} (kind : Kind Key) (key_of : K → Key) where
   pub read_all : (lines more : List WordLine) (entries : List (EntryLine K)) → HasRead kind key_of lines entries more → more ≡ []
       → AllPairs ◌≢◌ (keys_of (entries_of key_of entries)) → AreRead kind key_of lines entries
   read_all lines more entries h none once = record {
-    each = subst (λ z. AllZip (IsEntryLine kind key_of) z entries) (sym (h.split ∙ (ap (λ z. h.front ++ z) none ∙ append-nil h.front))) h.are;
+    each =
+        subst (λ z. AllZip (IsEntryLine kind key_of) z entries) (sym (h.split ∙ (ap (λ z. h.front ++ z) none ∙ append-nil h.front))) h.are;
     once = once;
   }
 
-  entries_written : (lines : List WordLine) (es : List (EntryLine K)) → AllZip (IsEntryLine kind key_of) lines es → AllZip (IsEntry kind) lines (entries_of key_of es)
+  entries_written : (lines : List WordLine) (es : List (EntryLine K)) → AllZip (IsEntryLine kind key_of) lines es
+      → AllZip (IsEntry kind) lines (entries_of key_of es)
   entries_written [] [] h = tt
   entries_written [] (e ∷ es) h = absurd h
   entries_written (l ∷ ls) [] h = absurd h
   entries_written (l ∷ ls) (e ∷ es) h = (h.0.is, entries_written ls es h.1)
 
   -- what the lines write
-  pub are_entries : (lines : List WordLine) (es : List (EntryLine K)) → AreRead kind key_of lines es → AreEntries kind lines (entries_of key_of es)
+  pub are_entries : (lines : List WordLine) (es : List (EntryLine K)) → AreRead kind key_of lines es
+      → AreEntries kind lines (entries_of key_of es)
   are_entries lines es h = record { each = entries_written lines es h.each; once = h.once }
 
   -- the scale is at most 18
-  pub small_scale : (lines : List WordLine) (es : List (EntryLine K)) → AreRead kind key_of lines es → greatest_decimals (map value_of es) ≤ 18
+  pub small_scale : (lines : List WordLine) (es : List (EntryLine K)) → AreRead kind key_of lines es
+      → greatest_decimals (map value_of es) ≤ 18
   small_scale lines es h = omega (arith, same_scale es, few_decimals kind lines (entries_of key_of es) (entries_written lines es h.each))
 
   -- the next line fails
-  pub next_fails : (lines more others : List WordLine) (es : List (EntryLine K)) (line : WordLine) (w : FileWhat) → HasRead kind key_of lines es more
+  pub next_fails : (lines more others : List WordLine) (es : List (EntryLine K)) (line : WordLine) (w : FileWhat)
+      → HasRead kind key_of lines es more
       → AllPairs ◌≢◌ (keys_of (entries_of key_of es)) → more ≡ line ∷ others → FailsBy kind (entries_of key_of es) line w
       → HasFailingLine kind lines line.number w
   next_fails lines more others es line w h once first fails = record {
@@ -165,7 +176,9 @@ module _ {K Key : Type 0} (kind : Kind Key) (key_of : K → Key) where
       let after = entries_of key_of (drop (place + 1) es) in
       let are : entries_of key_of es ≡ before ++ entry ∷ after = parts key_of es place d first.there in
       let scale : ℕ = scale_of (entries_of key_of es) in
-      let past : IsPast scale (before ++ entry ∷ []) = subst (IsPast scale) (map-more (entry_of key_of) es place d first.there) first.past in
+      let past : IsPast scale (before ++ entry ∷ []) =
+      subst (IsPast scale) (map-more (entry_of key_of) es place d first.there) first.past
+      in
       record {
         earlier = s.before;
         line = s.x;

@@ -1,5 +1,6 @@
 -- Lines of entries, one after another: each is right, or one is the first that is wrong.
-use Rattle.std.proofs.Common.{◌≡◌, ◌≢◌, ℕ, suc, ◌<◌, List, [], ◌∷◌, ◌++◌, length, ap, refl, sym, subst, ◌∙◌, append_assoc, append-nil, length-append, arith}
+use Rattle.std.proofs.Common.{◌≡◌, ◌≢◌, ℕ, suc, ◌<◌, List, [], ◌∷◌, ◌++◌, length, ap, refl, sym, subst, ◌∙◌, append_assoc, append-nil}
+use Rattle.std.proofs.Common.{length-append, arith}
 use Rattle.std.specs.List.{AllPairs, AllZip, Contains}
 use Rattle.std.proofs.Math.Seq.{get_or-append_seam}
 use Rattle.std.proofs.lemmas.List.{map-append, get_or_append_left}
@@ -74,7 +75,8 @@ module _ {Key : Type 0} (kind : Kind Key) (is : IsDecided kind) where
       ]
 
   -- a line that is right
-  run-good : (entries : List (Entry Key)) (line : WordLine) (lines : List WordLine) (e : Entry Key) → line_case kind is entries line ≡ Good e
+  run-good : (entries : List (Entry Key)) (line : WordLine) (lines : List WordLine) (e : Entry Key)
+      → line_case kind is entries line ≡ Good e
       → run entries (line ∷ lines) ≡ run (entries ++ e ∷ []) lines
   unfolding run
   run-good entries line lines e h = rw (h, run) refl
@@ -93,7 +95,9 @@ module _ {Key : Type 0} (kind : Kind Key) (is : IsDecided kind) where
   run-front (l ∷ ls) more es [] h k = absurd h
   run-front (l ∷ ls) more es (f ∷ fs) h k =
       let joined = append_assoc es (f ∷ []) fs in
-      let new : IsNew es f.key = distinct_at (keys_of es) f.key (keys_of fs) (subst (AllPairs ◌≢◌) (map-append (λ e. e.key) es (f ∷ fs)) k) in
+      let new : IsNew es f.key =
+      distinct_at (keys_of es) f.key (keys_of fs) (subst (AllPairs ◌≢◌) (map-append (λ e. e.key) es (f ∷ fs)) k)
+      in
       run-good es l (ls ++ more) f (line_case_is kind is es l (Good f) (h.0, new))
       ∙ run-front ls more (es ++ f ∷ []) fs h.1 (subst (λ z. AllPairs ◌≢◌ (keys_of z)) (sym joined) k)
       ∙ ap (λ z. run z more) joined
@@ -113,7 +117,8 @@ module _ {Key : Type 0} (kind : Kind Key) (is : IsDecided kind) where
       ∙ ap (λ z. Wrong z w) (sym h.here)
 
   module _ (lines : List WordLine) where
-    at_line : (front more : List WordLine) (line : WordLine) (entries : List (Entry Key)) → lines ≡ front ++ line ∷ more → AreEntries kind front entries
+    at_line : (front more : List WordLine) (line : WordLine) (entries : List (Entry Key)) → lines ≡ front ++ line ∷ more
+        → AreEntries kind front entries
         → ((e : Entry Key) → IsEntry kind line e → IsNew entries e.key → IsLinesCase kind lines (run (entries ++ e ∷ []) more))
         → (c : LineCase Key) → line_case kind is entries line ≡ c → IsLinesCase kind lines (run entries (line ∷ more))
     at_line front more line entries split are next (Good e) e_is =
@@ -131,7 +136,8 @@ module _ {Key : Type 0} (kind : Kind Key) (is : IsDecided kind) where
     run_from front (line ∷ more) entries split are =
         at_line front more line entries split are
         (λ f r new.
-        run_from (front ++ line ∷ []) more (entries ++ f ∷ []) (split ∙ sym (append_assoc front (line ∷ []) more)) (are_more kind front entries line f are r new))
+        run_from (front ++ line ∷ []) more (entries ++ f ∷ []) (split ∙ sym (append_assoc front (line ∷ []) more))
+        (are_more kind front entries line f are r new))
         (line_case kind is entries line) refl
 
     -- and this one

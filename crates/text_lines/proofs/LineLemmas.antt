@@ -1,9 +1,11 @@
 -- The lines of a text: `line_bytes` gives them, and there are no others.
-use Rattle.std.proofs.Common.{◌≡◌, ◌≢◌, ℕ, ◌+◌, ◌<◌, ◌≤◌, ◌⊎◌, inl, inr, Bool, true, false, ◌&&◌, ◌==◌, List, [], ◌∷◌, ◌++◌, length, map, refl, sym, ap, subst, if◌then◌else◌, ◌∙◌, append_assoc, arith}
+use Rattle.std.proofs.Common.{◌≡◌, ◌≢◌, ℕ, ◌+◌, ◌<◌, ◌≤◌, ◌⊎◌, inl, inr, Bool, true, false, ◌&&◌, ◌==◌, List, [], ◌∷◌, ◌++◌, length, map}
+use Rattle.std.proofs.Common.{refl, sym, ap, subst, if◌then◌else◌, ◌∙◌, append_assoc, arith}
 use Rattle.std.proofs.lemmas.Bool.{cases_Bool, cases_eq, ne_eqb, eqb-true, eqb-false, and_cases, both_ways, and_left, and_right, and_parts}
 use Rattle.std.proofs.lemmas.List.Elements.{recursion_from_All, All-from_recursion}
 use Rattle.std.specs.List.{AllByRecursion, onto_first}
-use Rattle.text_lines.specs.Lines.{LineText, numbered_from, Ending, Lf, CrLf, ending_text, EndedLine, HasNoLf, EndsWithCr, IsEndedLine, ended_text, last_line, HasLines}
+use Rattle.text_lines.specs.Lines.{LineText, numbered_from, Ending, Lf, CrLf, ending_text, EndedLine, HasNoLf, EndsWithCr, IsEndedLine}
+use Rattle.text_lines.specs.Lines.{ended_text, last_line, HasLines}
 use Rattle.text_lines.specs.LinesOf.{begins_with_lf, line_bytes, lines_of}
 
 abbrev IsNoLf : ℕ → Type 0
@@ -20,7 +22,8 @@ unfolding line_bytes
 line_bytes-cr_lf bs = refl
 
 -- and another byte belongs to a line
-line_bytes-other : (b : ℕ) (bs : List ℕ) → (b == 10) ≡ false → (b == 13 && begins_with_lf bs) ≡ false → line_bytes (b ∷ bs) ≡ onto_first b (line_bytes bs)
+line_bytes-other : (b : ℕ) (bs : List ℕ) → (b == 10) ≡ false → (b == 13 && begins_with_lf bs) ≡ false
+    → line_bytes (b ∷ bs) ≡ onto_first b (line_bytes bs)
 unfolding line_bytes
 line_bytes-other b bs e f = rw (e, f) refl
 
@@ -30,11 +33,13 @@ begins_without [] h = refl
 begins_without (b ∷ bs) h = ne_eqb b 10 h.0
 
 -- one byte of a line more, where no LF stands after it
-line_more : (b : ℕ) (bs line : List ℕ) (more : List (List ℕ)) → b ≢ 10 → begins_with_lf bs ≡ false → line_bytes bs ≡ line ∷ more → line_bytes (b ∷ bs) ≡ (b ∷ line) ∷ more
+line_more : (b : ℕ) (bs line : List ℕ) (more : List (List ℕ)) → b ≢ 10 → begins_with_lf bs ≡ false → line_bytes bs ≡ line ∷ more
+    → line_bytes (b ∷ bs) ≡ (b ∷ line) ∷ more
 line_more b bs line more n f e = line_bytes-other b bs (ne_eqb b 10 n) (and_right (b == 13) (begins_with_lf bs) f) ∙ ap (onto_first b) e
 
 -- a line that LF ends
-line_by_lf : (line after : List ℕ) → AllByRecursion IsNoLf line → ¬ EndsWithCr line → line_bytes (line ++ 10 ∷ after) ≡ line ∷ line_bytes after
+line_by_lf : (line after : List ℕ) → AllByRecursion IsNoLf line → ¬ EndsWithCr line
+    → line_bytes (line ++ 10 ∷ after) ≡ line ∷ line_bytes after
 line_by_lf [] after h n = line_bytes-lf after
 line_by_lf (b ∷ []) after h n =
     line_bytes-other b (10 ∷ after) (ne_eqb b 10 h.0) (and_left (b == 13) true (ne_eqb b 13 (λ e. n ([], ap (λ z. z ∷ []) e))))
@@ -59,12 +64,14 @@ line_by_end (b ∷ []) h = line_bytes-other b [] (ne_eqb b 10 h.0) (and_right (b
 line_by_end (b ∷ c ∷ cs) h = line_more b (c ∷ cs) (c ∷ cs) [] h.0 (ne_eqb c 10 h.1.0) (line_by_end (c ∷ cs) h.1)
 
 -- an ended line stands first
-line_by_ending : (bytes : List ℕ) (ending : Ending) (after : List ℕ) → HasNoLf bytes → (ending ≡ Lf → ¬ EndsWithCr bytes) → line_bytes (bytes ++ (ending_text ending ++ after)) ≡ bytes ∷ line_bytes after
+line_by_ending : (bytes : List ℕ) (ending : Ending) (after : List ℕ) → HasNoLf bytes → (ending ≡ Lf → ¬ EndsWithCr bytes)
+    → line_bytes (bytes ++ (ending_text ending ++ after)) ≡ bytes ∷ line_bytes after
 line_by_ending bytes Lf after h n = line_by_lf bytes after (recursion_from_All IsNoLf bytes h) (n refl)
 line_by_ending bytes CrLf after h n = line_by_cr_lf bytes after (recursion_from_All IsNoLf bytes h)
 
 -- the lines of ended lines and a rest
-line_bytes-spelled : (ended : List EndedLine) (rest : List ℕ) → AllByRecursion IsEndedLine ended → AllByRecursion IsNoLf rest → line_bytes (ended_text ended ++ rest) ≡ map (λ line. line.bytes) ended ++ last_line rest
+line_bytes-spelled : (ended : List EndedLine) (rest : List ℕ) → AllByRecursion IsEndedLine ended → AllByRecursion IsNoLf rest
+    → line_bytes (ended_text ended ++ rest) ≡ map (λ line. line.bytes) ended ++ last_line rest
 line_bytes-spelled [] rest h n = line_by_end rest n
 line_bytes-spelled (l ∷ ls) rest h n =
     let more = ended_text ls in
@@ -113,7 +120,8 @@ no_cr-more b bytes first n (f ∷ fs, e) =
     n (fs, rest)
 
 -- one byte more of the first line
-byte_before : (b : ℕ) (text : List ℕ) (ended : List EndedLine) (rest : List ℕ) → b ≢ 10 → (b ≡ 13 → begins_with_lf text ≡ true → ⊥) → text ≡ ended_text ended ++ rest → AllByRecursion IsEndedLine ended → AllByRecursion IsNoLf rest → Parts (b ∷ text)
+byte_before : (b : ℕ) (text : List ℕ) (ended : List EndedLine) (rest : List ℕ) → b ≢ 10 → (b ≡ 13 → begins_with_lf text ≡ true → ⊥)
+    → text ≡ ended_text ended ++ rest → AllByRecursion IsEndedLine ended → AllByRecursion IsNoLf rest → Parts (b ∷ text)
 byte_before b text [] rest n no_cr e h r = record { ended = []; rest = b ∷ rest; spelled = ap (λ z. b ∷ z) e; each = tt; no_lf = (n, r) }
 byte_before b text (l ∷ ls) rest n no_cr e h r = record {
   ended = record { bytes = b ∷ l.bytes; ending = l.ending } ∷ ls;
@@ -122,7 +130,8 @@ byte_before b text (l ∷ ls) rest n no_cr e h r = record {
   each = (
     record {
       no_lf = All-from_recursion IsNoLf (b ∷ l.bytes) (n, recursion_from_All IsNoLf l.bytes h.0.no_lf);
-      no_cr = λ is. no_cr-more b l.bytes (λ cr none. no_cr cr (ap begins_with_lf (e ∙ ap (λ z. (z ++ ending_text l.ending ++ ended_text ls) ++ rest) none ∙ ap (λ z. (ending_text z ++ ended_text ls) ++ rest) is))) (h.0.no_cr is);
+      no_cr =
+          λ is. no_cr-more b l.bytes (λ cr none. no_cr cr (ap begins_with_lf (e ∙ ap (λ z. (z ++ ending_text l.ending ++ ended_text ls) ++ rest) none ∙ ap (λ z. (ending_text z ++ ended_text ls) ++ rest) is))) (h.0.no_cr is);
     },
     h.1,
   );
@@ -145,12 +154,14 @@ parts_of (b ∷ c ∷ cs) =
     elim (cases_Bool (b == 13 && c == 10)) [
       | inl both ↦
           let parts = and_parts (b == 13) (c == 10) both in
-          subst (λ z. Parts (z ∷ c ∷ cs)) (sym (eqb-true b 13 parts.0)) (subst (λ z. Parts (13 ∷ z ∷ cs)) (sym (eqb-true c 10 parts.1)) (empty_line CrLf cs (parts_of cs)))
+          subst (λ z. Parts (z ∷ c ∷ cs)) (sym (eqb-true b 13 parts.0))
+          (subst (λ z. Parts (13 ∷ z ∷ cs)) (sym (eqb-true c 10 parts.1)) (empty_line CrLf cs (parts_of cs)))
       | inr not_both ↦ parts_more b (c ∷ cs) (λ cr lf. one_of_two b c not_both cr lf) (parts_of (c ∷ cs))
     ]
   where
     one_of_two : (b c : ℕ) → (b == 13 && c == 10) ≡ false → b ≡ 13 → (c == 10) ≡ true → ⊥
-    one_of_two b c e cr lf = elim (and_cases (b == 13) (c == 10) e) [ inl other ↦ eqb-false b 13 other cr | inr other ↦ both_ways (c == 10) other lf ]
+    one_of_two b c e cr lf =
+        elim (and_cases (b == 13) (c == 10) e) [ inl other ↦ eqb-false b 13 other cr | inr other ↦ both_ways (c == 10) other lf ]
 
 -- `line_bytes` gives a text's lines
 pub lines_exist : (text : List ℕ) → HasLines text (lines_of text)
@@ -178,7 +189,8 @@ length-line_bytes : (text : List ℕ) → length (line_bytes text) ≤ length te
 unfolding line_bytes
 length-line_bytes [] = omega arith
 length-line_bytes (b ∷ bs) = omega (arith, at_most (b == 10) (b == 13 && begins_with_lf bs) bs (length-line_bytes bs)) where
-  at_most : (s t : Bool) (bs : List ℕ) → length (line_bytes bs) ≤ length bs → length (if s then [] ∷ line_bytes bs else if t then line_bytes bs else onto_first b (line_bytes bs)) ≤ length bs + 1
+  at_most : (s t : Bool) (bs : List ℕ) → length (line_bytes bs) ≤ length bs
+      → length (if s then [] ∷ line_bytes bs else if t then line_bytes bs else onto_first b (line_bytes bs)) ≤ length bs + 1
   at_most true t bs h = omega arith
   at_most false true bs h = omega arith
   at_most false false bs h = omega (arith, length-onto_first b (line_bytes bs))
@@ -194,7 +206,8 @@ no_lf-front [] more h = tt
 no_lf-front (b ∷ bs) more h = (h.0, no_lf-front bs more h.1)
 
 -- the first line of a text that has LF, where `cut` is what stands before the LF without a CR at its end
-pub line_bytes-first : (text line after cut : List ℕ) → text ≡ line ++ 10 ∷ after → HasNoLf line → (line ≡ cut ++ 13 ∷ []) ⊎ ((cut ≡ line) × (¬ EndsWithCr line)) → line_bytes text ≡ cut ∷ line_bytes after
+pub line_bytes-first : (text line after cut : List ℕ) → text ≡ line ++ 10 ∷ after → HasNoLf line
+    → (line ≡ cut ++ 13 ∷ []) ⊎ ((cut ≡ line) × (¬ EndsWithCr line)) → line_bytes text ≡ cut ∷ line_bytes after
 line_bytes-first text line after cut e h (inl cr) =
     let no_lf : AllByRecursion IsNoLf (cut ++ 13 ∷ []) = subst (AllByRecursion IsNoLf) cr (recursion_from_All IsNoLf line h) in
     ap line_bytes (e ∙ ap (λ z. z ++ 10 ∷ after) cr ∙ append_assoc cut (13 ∷ []) (10 ∷ after))

@@ -16,15 +16,18 @@ first_tests true false r e = refl
 first_tests false a r e = refl
 
 -- where the first two tests pass, the last one decides
-pub is_name-last : (word : List ℕ) (first : ℕ) (rest : List ℕ) (reserved : Bool) → word ≡ first ∷ rest → begins_name first ≡ true → list_all continues_name rest ≡ true → reserved ≡ is_reserved word → not reserved ≡ is_name word
+pub is_name-last : (word : List ℕ) (first : ℕ) (rest : List ℕ) (reserved : Bool) → word ≡ first ∷ rest → begins_name first ≡ true
+    → list_all continues_name rest ≡ true → reserved ≡ is_reserved word → not reserved ≡ is_name word
 is_name-last word first rest reserved split begins continues same =
     ap not (same ∙ ap is_reserved split)
     ∙ last_test (begins_name first) (list_all continues_name rest) (is_reserved (first ∷ rest)) begins continues
     ∙ ap is_name (sym split)
 
 -- where one of the first two tests fails, it is no name
-pub is_name-fails : (word : List ℕ) (first : ℕ) (rest : List ℕ) → word ≡ first ∷ rest → (begins_name first && list_all continues_name rest) ≡ false → false ≡ is_name word
-is_name-fails word first rest split fails = first_tests (begins_name first) (list_all continues_name rest) (not (is_reserved (first ∷ rest))) fails ∙ ap is_name (sym split)
+pub is_name-fails : (word : List ℕ) (first : ℕ) (rest : List ℕ) → word ≡ first ∷ rest
+    → (begins_name first && list_all continues_name rest) ≡ false → false ≡ is_name word
+is_name-fails word first rest split fails =
+    first_tests (begins_name first) (list_all continues_name rest) (not (is_reserved (first ∷ rest))) fails ∙ ap is_name (sym split)
 
 -- the second test fails
 pub second_fails : (b a : Bool) → a ≡ false → (b && a) ≡ false

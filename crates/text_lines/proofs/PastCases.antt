@@ -1,5 +1,6 @@
 -- The first of the lines whose entry goes past a limit, if there is one.
-use Rattle.std.proofs.Common.{◌≡◌, ℕ, inl, inr, Option, Some, None, Bool, true, false, cond, List, [], ◌∷◌, ◌++◌, length, ap, refl, sym, subst, ◌∙◌, append_assoc, append-nil, arith}
+use Rattle.std.proofs.Common.{◌≡◌, ℕ, inl, inr, Option, Some, None, Bool, true, false, cond, List, [], ◌∷◌, ◌++◌, length, ap, refl, sym}
+use Rattle.std.proofs.Common.{subst, ◌∙◌, append_assoc, append-nil, arith}
 use Rattle.std.proofs.lemmas.Bool.{cases_Bool, cond-true, cond-false}
 use Rattle.text_lines.specs.WordLines.{WordLine}
 
@@ -32,7 +33,8 @@ module _ {E : Type 0} (IsWithin IsPast : List E → Type 0) where
   IsPastCase before lines entries None = IsWithin (before ++ entries)
   IsPastCase before lines entries (Some number) = IsPastLine before lines entries number
 
-  one_more : (before : List E) (line : WordLine) (lines : List WordLine) (e : E) (es : List E) (c : Option ℕ) → IsPastCase (before ++ e ∷ []) lines es c
+  one_more : (before : List E) (line : WordLine) (lines : List WordLine) (e : E) (es : List E) (c : Option ℕ)
+      → IsPastCase (before ++ e ∷ []) lines es c
       → IsPastCase before (line ∷ lines) (e ∷ es) c
   one_more before line lines e es None h = subst IsWithin (append_assoc before (e ∷ []) es) h
   one_more before line lines e es (Some number) h = record {
@@ -68,7 +70,8 @@ module _ {E : Type 0} (IsWithin IsPast : List E → Type 0) where
     first_past-past before line lines e es h = cond-false (is.fits before e) _ _ h
 
     -- all entries are within the limit
-    pub all_within : (before : List E) (lines : List WordLine) (entries : List E) → IsWithin (before ++ entries) → first_past before lines entries ≡ None
+    pub all_within : (before : List E) (lines : List WordLine) (entries : List E) → IsWithin (before ++ entries)
+        → first_past before lines entries ≡ None
     unfolding first_past
     all_within before [] entries h = refl
     all_within before (line ∷ lines) [] h = refl
@@ -82,7 +85,8 @@ module _ {E : Type 0} (IsWithin IsPast : List E → Type 0) where
         → first_past before (earlier ++ line ∷ later) (front ++ e ∷ after) ≡ Some line.number
     past_is before [] line later [] e after place within past =
         let all = append-nil before in
-        first_past-past before line later e after (is.past before e (subst IsWithin all within) (subst (λ z. IsPast (z ++ e ∷ [])) all past))
+        first_past-past before line later e after
+        (is.past before e (subst IsWithin all within) (subst (λ z. IsPast (z ++ e ∷ [])) all past))
     past_is before [] line later (f ∷ fs) e after place within past = absurd (omega (arith, place))
     past_is before (k ∷ ks) line later [] e after place within past = absurd (omega (arith, place))
     past_is before (k ∷ ks) line later (f ∷ fs) e after place within past =

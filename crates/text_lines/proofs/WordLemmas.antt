@@ -1,5 +1,6 @@
 -- The words of a line: `words_from` gives them, and there are no others.
-use Rattle.std.proofs.Common.{◌≡◌, ℕ, zero, suc, ◌+◌, ◌<◌, ◌≤◌, ◌⊎◌, ◌↔◌, inl, inr, Bool, true, false, not, IsTrue, List, [], ◌∷◌, ◌++◌, length, take, drop, get_or, All, refl, sym, ap, subst, if◌then◌else◌, ◌∙◌, append_assoc, arith}
+use Rattle.std.proofs.Common.{◌≡◌, ℕ, zero, suc, ◌+◌, ◌<◌, ◌≤◌, ◌⊎◌, ◌↔◌, inl, inr, Bool, true, false, not, IsTrue, List, [], ◌∷◌, ◌++◌}
+use Rattle.std.proofs.Common.{length, take, drop, get_or, All, refl, sym, ap, subst, if◌then◌else◌, ◌∙◌, append_assoc, arith}
 use Rattle.std.proofs.lemmas.Bool.{cases_Bool, both_ways, not-true, not-false}
 use Rattle.std.proofs.lemmas.List.{take-append-drop, length-take-le}
 use Rattle.std.proofs.Math.Seq.{drop-cons}
@@ -21,12 +22,14 @@ unfolding words_from
 words_from-blank column b bs e = rw e refl
 
 -- a byte between blanks is a word
-words_from-alone : (column b : ℕ) (bs : List ℕ) → is_blank b ≡ false → begins_word bs ≡ false → words_from column (b ∷ bs) ≡ record { column = column; bytes = b ∷ [] } ∷ words_from (column + 1) bs
+words_from-alone : (column b : ℕ) (bs : List ℕ) → is_blank b ≡ false → begins_word bs ≡ false
+    → words_from column (b ∷ bs) ≡ record { column = column; bytes = b ∷ [] } ∷ words_from (column + 1) bs
 unfolding words_from
 words_from-alone column b bs e f = rw (e, f) refl
 
 -- a byte before a word lengthens it
-words_from-more : (column b : ℕ) (bs : List ℕ) → is_blank b ≡ false → begins_word bs ≡ true → words_from column (b ∷ bs) ≡ lengthened column b (words_from (column + 1) bs)
+words_from-more : (column b : ℕ) (bs : List ℕ) → is_blank b ≡ false → begins_word bs ≡ true
+    → words_from column (b ∷ bs) ≡ lengthened column b (words_from (column + 1) bs)
 unfolding words_from
 words_from-more column b bs e f = rw (e, f) refl
 
@@ -47,7 +50,8 @@ no_word_begins [] h = refl
 no_word_begins (b ∷ bs) h = ap not (h b bs refl)
 
 -- a word that can't be longer stands first
-words_from-word : (column : ℕ) (word after : List ℕ) (next : ℕ) → 0 < length word → AllByRecursion IsWordByte word → FirstIsBlank after → next ≡ column + length word → words_from column (word ++ after) ≡ record { column = column; bytes = word } ∷ words_from next after
+words_from-word : (column : ℕ) (word after : List ℕ) (next : ℕ) → 0 < length word → AllByRecursion IsWordByte word → FirstIsBlank after
+    → next ≡ column + length word → words_from column (word ++ after) ≡ record { column = column; bytes = word } ∷ words_from next after
 words_from-word column [] after next l h n e = absurd (omega arith)
 words_from-word column (b ∷ []) after next l h n e =
     let here : column + 1 ≡ next = omega arith in
@@ -58,9 +62,11 @@ words_from-word column (b ∷ d ∷ ds) after next l h n e =
     ∙ ap (lengthened column b) (words_from-word (column + 1) (d ∷ ds) after next (omega arith) h.1 n (omega arith))
 
 -- blanks are passed over
-words_from-blanks : (column : ℕ) (blanks rest : List ℕ) (next : ℕ) → AllByRecursion IsBlankByte blanks → next ≡ column + length blanks → words_from column (blanks ++ rest) ≡ words_from next rest
+words_from-blanks : (column : ℕ) (blanks rest : List ℕ) (next : ℕ) → AllByRecursion IsBlankByte blanks → next ≡ column + length blanks
+    → words_from column (blanks ++ rest) ≡ words_from next rest
 words_from-blanks column [] rest next h e = ap (λ z. words_from z rest) (omega arith)
-words_from-blanks column (b ∷ bs) rest next h e = words_from-blank column b (bs ++ rest) h.0 ∙ words_from-blanks (column + 1) bs rest next h.1 (omega arith)
+words_from-blanks column (b ∷ bs) rest next h e =
+    words_from-blank column b (bs ++ rest) h.0 ∙ words_from-blanks (column + 1) bs rest next h.1 (omega arith)
 
 -- blanks have no words
 words_from-none : (column : ℕ) (blanks : List ℕ) → AllByRecursion IsBlankByte blanks → words_from column blanks ≡ []
@@ -81,7 +87,8 @@ run_of (b ∷ bs) =
     let r = run_of bs in
     elim (cases_Bool (is_blank b)) [
       | inl blank ↦ record { word = []; after = b ∷ bs; is = refl; solid = tt; ends = first_is_blank (b ∷ bs) (ap not blank) }
-      | inr solid ↦ record { word = b ∷ r.word; after = r.after; is = ap (λ z. b ∷ z) r.is; solid = (ap not solid, r.solid); ends = r.ends }
+      | inr solid ↦
+          record { word = b ∷ r.word; after = r.after; is = ap (λ z. b ∷ z) r.is; solid = (ap not solid, r.solid); ends = r.ends }
     ]
 
 -- the same where a word begins
@@ -122,9 +129,13 @@ words_ascend column [] = subst (Ascend column) (sym (words_from-nil column)) tt
 words_ascend column (b ∷ bs) =
     let later = words_ascend (column + 1) bs in
     elim (cases_Bool (is_blank b)) [
-      | inl blank ↦ subst (Ascend column) (sym (words_from-blank column b bs blank)) (ascend_from (column + 1) column (words_from (column + 1) bs) (omega arith) later)
+      | inl blank ↦
+          subst (Ascend column) (sym (words_from-blank column b bs blank))
+          (ascend_from (column + 1) column (words_from (column + 1) bs) (omega arith) later)
       | inr solid ↦ elim (cases_Bool (begins_word bs)) [
-        | inl more ↦ subst (Ascend column) (sym (words_from-more column b bs solid more)) (ascend-lengthened column b (words_from (column + 1) bs) later)
+        | inl more ↦
+            subst (Ascend column) (sym (words_from-more column b bs solid more))
+            (ascend-lengthened column b (words_from (column + 1) bs) later)
         | inr alone ↦ subst (Ascend column) (sym (words_from-alone column b bs solid alone)) (omega arith, later)
       ]
     ]
@@ -163,7 +174,9 @@ unfolding Ascend
 pairs_ascend lowest [] h = λ i j d l k. absurd (omega arith)
 pairs_ascend lowest (v ∷ vs) h =
     let above : (w : WordText) → In w vs → v.column < w.column = λ w i. omega (arith, in_above (v.column + 1) vs w h.1 i) in
-    AllPairs-cons (λ v w. v.column < w.column) v vs (All-from_recursion (λ w. v.column < w.column) vs (all_from_in (λ w. v.column < w.column) vs above)) (pairs_ascend (v.column + 1) vs h.1)
+    AllPairs-cons (λ v w. v.column < w.column) v vs
+    (All-from_recursion (λ w. v.column < w.column) vs (all_from_in (λ w. v.column < w.column) vs above))
+    (pairs_ascend (v.column + 1) vs h.1)
 
 -- ---- each of them is a word, and each word is one of them
 
@@ -199,7 +212,8 @@ begins_with_word [] after l h = absurd (omega arith)
 begins_with_word (b ∷ bs) after l h = h.0
 
 -- the same run with one byte more before it
-run_later : (column b : ℕ) (bs : List ℕ) (w : WordText) (r : IsRunOf (column + 1) bs w) → LastIsBlank (b ∷ r.before) → IsRunOf column (b ∷ bs) w
+run_later : (column b : ℕ) (bs : List ℕ) (w : WordText) (r : IsRunOf (column + 1) bs w) → LastIsBlank (b ∷ r.before)
+    → IsRunOf column (b ∷ bs) w
 run_later column b bs w r h = record {
   before = b ∷ r.before;
   after = r.after;
@@ -224,11 +238,16 @@ not_at_once column bs w r e = go r.before r.stands where
   go (b ∷ before) same = omega arith
 
 -- the first of the words where one byte or more begin it
-words_from-first : (column b : ℕ) (bs : List ℕ) → IsWordByte b → (f : FirstWord bs) → words_from column (b ∷ bs) ≡ record { column = column; bytes = b ∷ f.word } ∷ words_from (column + 1 + length f.word) f.after
-words_from-first column b bs h f = ap (λ z. words_from column (b ∷ z)) f.is ∙ words_from-word column (b ∷ f.word) f.after (column + 1 + length f.word) (omega arith) (h, f.solid) f.ends (omega arith)
+words_from-first : (column b : ℕ) (bs : List ℕ) → IsWordByte b → (f : FirstWord bs)
+    → words_from column (b ∷ bs) ≡ record { column = column; bytes = b ∷ f.word } ∷ words_from (column + 1 + length f.word) f.after
+words_from-first column b bs h f =
+    ap (λ z. words_from column (b ∷ z)) f.is
+    ∙ words_from-word column (b ∷ f.word) f.after (column + 1 + length f.word) (omega arith) (h, f.solid) f.ends (omega arith)
 
-words_from-begun : (column : ℕ) (bs : List ℕ) → (f : FirstWord bs) → words_from column bs ≡ record { column = column; bytes = f.word } ∷ words_from (column + length f.word) f.after
-words_from-begun column bs f = ap (words_from column) f.is ∙ words_from-word column f.word f.after (column + length f.word) f.some f.solid f.ends refl
+words_from-begun : (column : ℕ) (bs : List ℕ) → (f : FirstWord bs)
+    → words_from column bs ≡ record { column = column; bytes = f.word } ∷ words_from (column + length f.word) f.after
+words_from-begun column bs f =
+    ap (words_from column) f.is ∙ words_from-word column f.word f.after (column + length f.word) f.some f.solid f.ends refl
 
 -- each of them is a word
 each_is_run : (column : ℕ) (bs : List ℕ) (w : WordText) → In w (words_from column bs) → IsRunOf column bs w
@@ -241,11 +260,14 @@ each_is_run column (b ∷ bs) w i =
           run_later column b bs w r (last_is_blank-one b r.before blank r.starts)
       | inr solid ↦ elim (cases_Bool (begins_word bs)) [
         | inl more ↦ in_longer column b bs w (ap not solid) (first_word bs more) (λ j. each_is_run (column + 1) bs w j) i
-        | inr alone ↦ in_alone column b bs w (ap not solid) alone (λ j. each_is_run (column + 1) bs w j) (subst (In w) (words_from-alone column b bs solid alone) i)
+        | inr alone ↦
+            in_alone column b bs w (ap not solid) alone (λ j. each_is_run (column + 1) bs w j)
+            (subst (In w) (words_from-alone column b bs solid alone) i)
       ]
     ]
   where
-    in_alone : (column b : ℕ) (bs : List ℕ) (w : WordText) → IsWordByte b → begins_word bs ≡ false → (In w (words_from (column + 1) bs) → IsRunOf (column + 1) bs w)
+    in_alone : (column b : ℕ) (bs : List ℕ) (w : WordText) → IsWordByte b → begins_word bs ≡ false
+        → (In w (words_from (column + 1) bs) → IsRunOf (column + 1) bs w)
         → (record { column = column; bytes = b ∷ [] } ≡ w) ⊎ In w (words_from (column + 1) bs) → IsRunOf column (b ∷ bs) w
     in_alone column b bs w h e later (inl same) = subst (IsRunOf column (b ∷ bs)) same (record {
       before = [];
@@ -260,8 +282,13 @@ each_is_run column (b ∷ bs) w i =
     in_alone column b bs w h e later (inr j) =
         let r = later j in run_later column b bs w r (starts_later b r.before (not_at_once (column + 1) bs w r e) r.starts)
 
-    longer : (column b : ℕ) (bs : List ℕ) (w : WordText) → IsWordByte b → (f : FirstWord bs) → (In w (words_from (column + 1) bs) → IsRunOf (column + 1) bs w)
-        → (record { column = column; bytes = b ∷ f.word } ≡ w) ⊎ In w (words_from (column + 1 + length f.word) f.after) → IsRunOf column (b ∷ bs) w
+    longer : (column b : ℕ) (bs : List ℕ) (w : WordText) → IsWordByte b → (f : FirstWord bs)
+        → (In w (words_from (column + 1) bs) → IsRunOf (column + 1) bs w)
+        → (record {
+          column =
+              column;
+          bytes = b ∷ f.word;
+        } ≡ w) ⊎ In w (words_from (column + 1 + length f.word) f.after) → IsRunOf column (b ∷ bs) w
     longer column b bs w h f later (inl same) = subst (IsRunOf column (b ∷ bs)) same (record {
       before = [];
       after = f.after;
@@ -274,15 +301,21 @@ each_is_run column (b ∷ bs) w i =
     })
     longer column b bs w h f later (inr j) =
         let r = later (subst (In w) (sym (words_from-begun (column + 1) bs f)) (inr j)) in
-        let above = in_above (column + 1 + length f.word) (words_from (column + 1 + length f.word) f.after) w (words_ascend (column + 1 + length f.word) f.after) j in
+        let above =
+        in_above (column + 1 + length f.word) (words_from (column + 1 + length f.word) f.after) w
+        (words_ascend (column + 1 + length f.word) f.after) j
+        in
         run_later column b bs w r (starts_later b r.before (omega (arith, above, r.column_is, f.some)) r.starts)
 
-    in_longer : (column b : ℕ) (bs : List ℕ) (w : WordText) → IsWordByte b → (f : FirstWord bs) → (In w (words_from (column + 1) bs) → IsRunOf (column + 1) bs w)
+    in_longer : (column b : ℕ) (bs : List ℕ) (w : WordText) → IsWordByte b → (f : FirstWord bs)
+        → (In w (words_from (column + 1) bs) → IsRunOf (column + 1) bs w)
         → In w (words_from column (b ∷ bs)) → IsRunOf column (b ∷ bs) w
     in_longer column b bs w h f later i = longer column b bs w h f later (subst (In w) (words_from-first column b bs h f) i)
 
 -- and each word is one of them
-run_is_in : (column : ℕ) (bs : List ℕ) (w : WordText) (before after : List ℕ) → bs ≡ before ++ (w.bytes ++ after) → w.column ≡ length before + column → 0 < length w.bytes → AllByRecursion IsWordByte w.bytes → LastIsBlank before → FirstIsBlank after → In w (words_from column bs)
+run_is_in : (column : ℕ) (bs : List ℕ) (w : WordText) (before after : List ℕ) → bs ≡ before ++ (w.bytes ++ after)
+    → w.column ≡ length before + column → 0 < length w.bytes → AllByRecursion IsWordByte w.bytes → LastIsBlank before → FirstIsBlank after
+    → In w (words_from column bs)
 unfolding In
 run_is_in column bs w [] after is at some solid starts ends =
     let first = words_from-word column w.bytes after (column + length w.bytes) some solid ends refl in
@@ -301,11 +334,17 @@ run_is_in column bs w (b ∷ before) after is at some solid starts ends =
     is_there b (c ∷ cs) e h = omega arith
 
     later_one : (column b : ℕ) (rest : List ℕ) (w : WordText) → IsWordByte b → (f : FirstWord rest) → column + 1 < w.column
-        → (record { column = column + 1; bytes = f.word } ≡ w) ⊎ In w (words_from (column + 1 + length f.word) f.after) → In w (words_from column (b ∷ rest))
+        → (record {
+          column =
+              column + 1;
+          bytes = f.word;
+        } ≡ w) ⊎ In w (words_from (column + 1 + length f.word) f.after) → In w (words_from column (b ∷ rest))
     later_one column b rest w h f above (inl same) = absurd (omega (arith, above, ap (λ z. z.column) same))
     later_one column b rest w h f above (inr j) = subst (In w) (sym (words_from-first column b rest h f)) (inr j)
 
-    past_a_word : (column b : ℕ) (rest : List ℕ) (w : WordText) (before : List ℕ) → is_blank b ≡ false → w.column ≡ length (b ∷ before) + column → LastIsBlank (b ∷ before) → In w (words_from (column + 1) rest) → In w (words_from column (b ∷ rest))
+    past_a_word : (column b : ℕ) (rest : List ℕ) (w : WordText) (before : List ℕ) → is_blank b ≡ false
+        → w.column ≡ length (b ∷ before) + column → LastIsBlank (b ∷ before) → In w (words_from (column + 1) rest)
+        → In w (words_from column (b ∷ rest))
     past_a_word column b rest w before e at starts later =
         elim (cases_Bool (begins_word rest)) [
           | inl more ↦
@@ -329,36 +368,45 @@ word_from_run line w r = record {
 }
 
 word_is_in : (line : List ℕ) (w : WordText) → IsWordOf line w → In w (words_of line)
-word_is_in line w r = run_is_in 1 line w r.before r.after (r.stands ∙ append_assoc r.before w.bytes r.after) r.column r.some (recursion_from_All IsWordByte w.bytes r.solid) r.starts r.ends
+word_is_in line w r =
+    run_is_in 1 line w r.before r.after (r.stands ∙ append_assoc r.before w.bytes r.after) r.column r.some
+    (recursion_from_All IsWordByte w.bytes r.solid) r.starts r.ends
 
 -- `words_of` gives a line's words
 pub words_exist : (line : List ℕ) → HasWords line (words_of line)
 words_exist line = record {
-  each = All-from_recursion (IsWordOf line) (words_of line) (all_from_in (IsWordOf line) (words_of line) (λ w i. word_from_run line w (each_is_run 1 line w i)));
+  each =
+      All-from_recursion (IsWordOf line) (words_of line)
+      (all_from_in (IsWordOf line) (words_of line) (λ w i. word_from_run line w (each_is_run 1 line w i)));
   all = λ w h. contains_from_in (words_of line) w (word_is_in line w h);
   ascending = pairs_ascend 1 (words_of line) (words_ascend 1 line);
 }
 
 -- the first is before each later one
-first_below : (v : WordText) (vs : List WordText) (w : WordText) → AllPairs (λ v w. v.column < w.column) (v ∷ vs) → In w vs → v.column < w.column
+first_below : (v : WordText) (vs : List WordText) (w : WordText) → AllPairs (λ v w. v.column < w.column) (v ∷ vs) → In w vs
+    → v.column < w.column
 first_below v vs w h i =
     let c = contains_from_in vs w i in
     subst (λ (z : WordText). v.column < z.column) c.2 (h 0 (suc c.0) w (omega arith) (omega (arith, c.1)))
 
-later_pairs : (v : WordText) (vs : List WordText) → AllPairs (λ v w. v.column < w.column) (v ∷ vs) → AllPairs (λ v w. v.column < w.column) vs
+later_pairs : (v : WordText) (vs : List WordText) → AllPairs (λ v w. v.column < w.column) (v ∷ vs)
+    → AllPairs (λ v w. v.column < w.column) vs
 later_pairs v vs h = λ i j d l k. h (suc i) (suc j) d (omega (arith, l)) (omega (arith, k))
 
 -- two ascending lists of the same words are the same
-same_heads : (v w : WordText) (vs ws : List WordText) → AllPairs (λ v w. v.column < w.column) (v ∷ vs) → AllPairs (λ v w. v.column < w.column) (w ∷ ws) → (w ≡ v) ⊎ In v ws → (v ≡ w) ⊎ In w vs → v ≡ w
+same_heads : (v w : WordText) (vs ws : List WordText) → AllPairs (λ v w. v.column < w.column) (v ∷ vs)
+    → AllPairs (λ v w. v.column < w.column) (w ∷ ws) → (w ≡ v) ⊎ In v ws → (v ≡ w) ⊎ In w vs → v ≡ w
 same_heads v w vs ws h k (inl same) there = sym same
 same_heads v w vs ws h k (inr i) (inl same) = same
 same_heads v w vs ws h k (inr i) (inr j) = absurd (omega (arith, first_below w ws v k i, first_below v vs w h j))
 
-in_later : (v w u : WordText) (vs ws : List WordText) → v ≡ w → AllPairs (λ v w. v.column < w.column) (v ∷ vs) → In u vs → (w ≡ u) ⊎ In u ws → In u ws
+in_later : (v w u : WordText) (vs ws : List WordText) → v ≡ w → AllPairs (λ v w. v.column < w.column) (v ∷ vs) → In u vs
+    → (w ≡ u) ⊎ In u ws → In u ws
 in_later v w u vs ws same h i (inl is) = absurd (omega (arith, first_below v vs u h i, ap (λ z. z.column) same, ap (λ z. z.column) is))
 in_later v w u vs ws same h i (inr j) = j
 
-same_words : (vs ws : List WordText) → AllPairs (λ v w. v.column < w.column) vs → AllPairs (λ v w. v.column < w.column) ws → ((u : WordText) → In u vs → In u ws) → ((u : WordText) → In u ws → In u vs) → vs ≡ ws
+same_words : (vs ws : List WordText) → AllPairs (λ v w. v.column < w.column) vs → AllPairs (λ v w. v.column < w.column) ws
+    → ((u : WordText) → In u vs → In u ws) → ((u : WordText) → In u ws → In u vs) → vs ≡ ws
 unfolding In
 same_words [] [] h k f g = refl
 same_words [] (w ∷ ws) h k f g = absurd (g w (inl refl))
@@ -387,14 +435,18 @@ words_unique line words h =
 -- ---- the first word that is left
 
 -- the first word stands behind the blanks
-pub words_from-next : (column n : ℕ) (bytes word rest : List ℕ) → n < length bytes → All IsBlankByte (take n bytes) → IsWordByte (get_or bytes n 0) → drop n bytes ≡ word ++ rest → HasNoBlank word → FirstIsBlank rest → words_from column bytes ≡ record { column = column + n; bytes = word } ∷ words_from (column + n + length word) rest
+pub words_from-next : (column n : ℕ) (bytes word rest : List ℕ) → n < length bytes → All IsBlankByte (take n bytes)
+    → IsWordByte (get_or bytes n 0) → drop n bytes ≡ word ++ rest → HasNoBlank word → FirstIsBlank rest
+    → words_from column bytes ≡ record { column = column + n; bytes = word } ∷ words_from (column + n + length word) rest
 words_from-next column n bytes word rest l blanks solid is h ends =
     let begun : begins_word (word ++ rest) ≡ true = ap begins_word (sym is ∙ drop-cons bytes n 0 l) ∙ solid in
     let skipped = length-take-le n bytes (omega (arith, l)) in
     let split : bytes ≡ take n bytes ++ (word ++ rest) = sym (take-append-drop n bytes) ∙ ap (λ z. take n bytes ++ z) is in
     ap (words_from column) split
-    ∙ words_from-blanks column (take n bytes) (word ++ rest) (column + n) (recursion_from_All IsBlankByte (take n bytes) blanks) (omega (arith, skipped))
-    ∙ words_from-word (column + n) word rest (column + n + length word) (not_empty word rest begun ends) (recursion_from_All IsWordByte word h) ends refl
+    ∙ words_from-blanks column (take n bytes) (word ++ rest) (column + n) (recursion_from_All IsBlankByte (take n bytes) blanks)
+    (omega (arith, skipped))
+    ∙ words_from-word (column + n) word rest (column + n + length word) (not_empty word rest begun ends)
+    (recursion_from_All IsWordByte word h) ends refl
   where
     not_empty : (word rest : List ℕ) → begins_word (word ++ rest) ≡ true → FirstIsBlank rest → 0 < length word
     not_empty [] rest e f = absurd (both_ways (begins_word rest) (no_word_begins rest f) e)
@@ -408,12 +460,14 @@ words_from-end column bytes h = words_from-none column bytes (recursion_from_All
 pub length-words_from : (column : ℕ) (bs : List ℕ) → length (words_from column bs) ≤ length bs
 unfolding words_from
 length-words_from column [] = omega arith
-length-words_from column (b ∷ bs) = omega (arith, at_most (is_blank b) (begins_word bs) column b bs (words_from (column + 1) bs) (length-words_from (column + 1) bs)) where
-  at_most : (s t : Bool) (column b : ℕ) (bs : List ℕ) (more : List WordText) → length more ≤ length bs → length (if s then more else if t then lengthened column b more else record { column = column; bytes = b ∷ [] } ∷ more) ≤ length bs + 1
-  at_most true t column b bs more h = omega arith
-  at_most false true column b bs [] h = omega arith
-  at_most false true column b bs (w ∷ ws) h = omega arith
-  at_most false false column b bs more h = omega arith
+length-words_from column (b ∷ bs) =
+    omega (arith, at_most (is_blank b) (begins_word bs) column b bs (words_from (column + 1) bs) (length-words_from (column + 1) bs)) where
+      at_most : (s t : Bool) (column b : ℕ) (bs : List ℕ) (more : List WordText) → length more ≤ length bs
+          → length (if s then more else if t then lengthened column b more else record { column = column; bytes = b ∷ [] } ∷ more) ≤ length bs + 1
+      at_most true t column b bs more h = omega arith
+      at_most false true column b bs [] h = omega arith
+      at_most false true column b bs (w ∷ ws) h = omega arith
+      at_most false false column b bs more h = omega arith
 
 -- ---- blank lines
 

@@ -28,10 +28,13 @@ word_lines_exist text = record {
 
 row_is : (line : LineText) (row : WordLine) → IsWordLine line row → row ≡ word_line line
 row_is line row h =
-    let words : row.words ≡ map (λ w. w.bytes) (words_of line.bytes) = h.bytes ∙ ap (map (λ (w : WordText). w.bytes)) (words_unique line.bytes h.words h.are) in
+    let words : row.words ≡ map (λ w. w.bytes) (words_of line.bytes) =
+    h.bytes ∙ ap (map (λ (w : WordText). w.bytes)) (words_unique line.bytes h.words h.are)
+    in
     same_rows row.number line.number row.words (map (λ w. w.bytes) (words_of line.bytes)) h.number words
   where
-    same_rows : (m n : ℕ) (vs ws : List (List ℕ)) → m ≡ n → vs ≡ ws → ◌≡◌ {A = WordLine} (record { number = m; words = vs }) (record { number = n; words = ws })
+    same_rows : (m n : ℕ) (vs ws : List (List ℕ)) → m ≡ n → vs ≡ ws
+        → ◌≡◌ {A = WordLine} (record { number = m; words = vs }) (record { number = n; words = ws })
     same_rows m n vs ws e f =
         let by_number : ℕ → WordLine = λ z. record { number = z; words = vs } in
         let by_words : List (List ℕ) → WordLine = λ z. record { number = n; words = z } in
@@ -50,15 +53,19 @@ word_lines_unique text rows h =
     ∙ ap (filter has_words) (rows_are h.lines h.each h.by_words ∙ ap (map word_line) (lines_unique text h.lines h.are))
 
 -- a blank line is left out
-pub word_lines_in-blank : (line : LineText) (lines : List LineText) → words_of line.bytes ≡ [] → word_lines_in (line ∷ lines) ≡ word_lines_in lines
+pub word_lines_in-blank : (line : LineText) (lines : List LineText) → words_of line.bytes ≡ []
+    → word_lines_in (line ∷ lines) ≡ word_lines_in lines
 word_lines_in-blank line lines e = left_out line.number (words_of line.bytes) (map word_line lines) e where
-  left_out : (n : ℕ) (ws : List WordText) (rows : List WordLine) → ws ≡ [] → filter has_words (record { number = n; words = map (λ w. w.bytes) ws } ∷ rows) ≡ filter has_words rows
+  left_out : (n : ℕ) (ws : List WordText) (rows : List WordLine) → ws ≡ []
+      → filter has_words (record { number = n; words = map (λ w. w.bytes) ws } ∷ rows) ≡ filter has_words rows
   left_out n [] rows e = refl
   left_out n (w ∷ ws) rows e = cc
 
 -- any other line stands there by its words
-pub word_lines_in-filled : (line : LineText) (lines : List LineText) (w : WordText) (ws : List WordText) → words_of line.bytes ≡ w ∷ ws → word_lines_in (line ∷ lines) ≡ word_line line ∷ word_lines_in lines
+pub word_lines_in-filled : (line : LineText) (lines : List LineText) (w : WordText) (ws : List WordText) → words_of line.bytes ≡ w ∷ ws
+    → word_lines_in (line ∷ lines) ≡ word_line line ∷ word_lines_in lines
 word_lines_in-filled line lines w ws e = stays line.number (words_of line.bytes) (map word_line lines) e where
-  stays : (n : ℕ) (vs : List WordText) (rows : List WordLine) → vs ≡ w ∷ ws → filter has_words (record { number = n; words = map (λ v. v.bytes) vs } ∷ rows) ≡ record { number = n; words = map (λ v. v.bytes) vs } ∷ filter has_words rows
+  stays : (n : ℕ) (vs : List WordText) (rows : List WordLine) → vs ≡ w ∷ ws
+      → filter has_words (record { number = n; words = map (λ v. v.bytes) vs } ∷ rows) ≡ record { number = n; words = map (λ v. v.bytes) vs } ∷ filter has_words rows
   stays n [] rows e = cc
   stays n (v ∷ vs) rows e = refl

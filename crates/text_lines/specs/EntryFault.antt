@@ -47,7 +47,8 @@ pub record HasFailingLine {Key : Type 0} (kind : Kind Key) (lines : List WordLin
   pub here : number ≡ line.number
 
 -- all lines are right, and this is the first that goes past a limit at the scale of them all: the entries before its own are within it
-pub record HasLinePast {Key : Type 0} (kind : Kind Key) (IsWithin IsPast : ℕ → List (Entry Key) → Type 0) (lines : List WordLine) (number : ℕ) : Type 0 where
+pub record HasLinePast {Key : Type 0} (kind : Kind Key) (IsWithin IsPast : ℕ → List (Entry Key) → Type 0)
+    (lines : List WordLine) (number : ℕ) : Type 0 where
   pub earlier : List WordLine
   pub line : WordLine
   pub later : List WordLine

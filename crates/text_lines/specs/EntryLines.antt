@@ -29,18 +29,21 @@ abbrev pub FailsAnyway : {Key : Type 0} → Kind Key → WordLine → FileWhat �
 FailsAnyway {Key} kind line fault = (entries : List (Entry Key)) → FailsBy kind entries line fault
 
 -- the first of the lines write these entries, and the others are left
-pub record HasRead {K Key : Type 0} (kind : Kind Key) (key_of : K → Key) (lines : List WordLine) (entries : List (EntryLine K)) (more : List WordLine) : Type 0 where
+pub record HasRead {K Key : Type 0} (kind : Kind Key) (key_of : K → Key) (lines : List WordLine) (entries : List (EntryLine K))
+    (more : List WordLine) : Type 0 where
   pub front : List WordLine
   pub split : lines ≡ front ++ more
   pub are : AllZip (IsEntryLine kind key_of) front entries
 
 -- the lines write these entries, and their keys are distinct
-pub record AreRead {K Key : Type 0} (kind : Kind Key) (key_of : K → Key) (lines : List WordLine) (entries : List (EntryLine K)) : Type 0 where
+pub record AreRead {K Key : Type 0} (kind : Kind Key) (key_of : K → Key) (lines : List WordLine)
+    (entries : List (EntryLine K)) : Type 0 where
   pub each : AllZip (IsEntryLine kind key_of) lines entries
   pub once : AllPairs ◌≢◌ (keys_of (entries_of key_of entries))
 
 -- the place of the first entry that goes past a limit
-pub record IsFirstPast {K Key : Type 0} (key_of : K → Key) (IsWithin IsPast : List (Entry Key) → Type 0) (entries : List (EntryLine K)) (place : ℕ) : Type 0 where
+pub record IsFirstPast {K Key : Type 0} (key_of : K → Key) (IsWithin IsPast : List (Entry Key) → Type 0)
+    (entries : List (EntryLine K)) (place : ℕ) : Type 0 where
   pub there : place < length entries
   pub within : IsWithin (entries_of key_of (take place entries))
   pub past : IsPast (entries_of key_of (take (place + 1) entries))

@@ -22,7 +22,8 @@ LastIsBlank bytes = (front : List ℕ) (b : ℕ) → bytes ≡ front ++ b ∷ []
 abbrev pub FirstIsBlank : List ℕ → Type 0
 FirstIsBlank bytes = (b : ℕ) (more : List ℕ) → bytes ≡ b ∷ more → IsTrue (is_blank b)
 
--- w is a longest run of bytes other than blanks: it isn't empty, and before it and after it a blank stands or nothing; its column counts the bytes before it, and one more
+-- w is a longest run of bytes other than blanks: it isn't empty, and before it and after it a blank stands or nothing; its column counts
+-- the bytes before it, and one more
 pub record IsWordOf (line : List ℕ) (w : WordText) : Type 0 where
   pub before : List ℕ
   pub after : List ℕ

@@ -1,5 +1,6 @@
 -- How many lines of transitions there are, and those of them that the head says.
-use Rattle.std.proofs.Common.{◌≡◌, ℕ, zero, suc, ◌-◌, ◌<◌, Option, Some, None, List, [], ◌∷◌, ◌++◌, length, take, drop, ap, refl, sym, subst, ◌∙◌, append_assoc, length-append, arith}
+use Rattle.std.proofs.Common.{◌≡◌, ℕ, zero, suc, ◌-◌, ◌<◌, Option, Some, None, List, [], ◌∷◌, ◌++◌, length, take, drop, ap, refl, sym}
+use Rattle.std.proofs.Common.{subst, ◌∙◌, append_assoc, length-append, arith}
 use Rattle.std.proofs.lemmas.List.{take-append-drop, length-take}
 use Rattle.text_lines.specs.EntryFault.{HasFailingLine}
 use Rattle.text_lines.specs.Entries.{Kind}
@@ -50,11 +51,20 @@ many_is end zero (f ∷ fs) line more h = absurd (omega arith)
 many_is end (suc due) [] line more h = absurd (omega arith)
 many_is end (suc due) (f ∷ fs) line more h = many_is end due fs line more (omega arith)
 
-one_longer : (end due : ℕ) (line : WordLine) (lines : List WordLine) (c : Option ℕ) → CountCase end due lines c → CountCase end (suc due) (line ∷ lines) c
+one_longer : (end due : ℕ) (line : WordLine) (lines : List WordLine) (c : Option ℕ) → CountCase end due lines c
+    → CountCase end (suc due) (line ∷ lines) c
 one_longer end due line lines c (Exact e h) = Exact e (omega arith)
 one_longer end due line lines c (Few e h) = Few e (omega arith)
 one_longer end due line lines c (Many number e h) =
-    Many number e (record { front = line ∷ h.front; line = h.line; more = h.more; split = ap (λ z. line ∷ z) h.split; full = omega (arith, h.full); here = h.here })
+    Many number e (record {
+      front =
+          line ∷ h.front;
+      line = h.line;
+      more = h.more;
+      split = ap (λ z. line ∷ z) h.split;
+      full = omega (arith, h.full);
+      here = h.here;
+    })
 
 pub miscount_holds : (end due : ℕ) (lines : List WordLine) → CountCase end due lines (miscount end due lines)
 unfolding miscount
@@ -102,7 +112,8 @@ pub record FailsInTime {Key : Type 0} (kind : Kind Key) (lines : List WordLine) 
   pub line : HasFailingLine kind lines number w
   pub due : length line.front < count
 
-pub fails_due : {Key : Type 0} (kind : Kind Key) (lines : List WordLine) (count number : ℕ) (w : FileWhat) → HasFailingLine kind (take count lines) number w
+pub fails_due : {Key : Type 0} (kind : Kind Key) (lines : List WordLine) (count number : ℕ) (w : FileWhat)
+    → HasFailingLine kind (take count lines) number w
     → FailsInTime kind lines count number w
 fails_due kind lines count number w h = record {
   line = record {
@@ -110,7 +121,10 @@ fails_due kind lines count number w h = record {
     line = h.line;
     more = h.more ++ drop count lines;
     entries = h.entries;
-    split = sym (take-append-drop count lines) ∙ ap (λ z. z ++ drop count lines) h.split ∙ append_assoc h.front (h.line ∷ h.more) (drop count lines);
+    split =
+        sym (take-append-drop count lines)
+        ∙ ap (λ z. z ++ drop count lines) h.split
+        ∙ append_assoc h.front (h.line ∷ h.more) (drop count lines);
     are = h.are;
     fails = h.fails;
     here = h.here;

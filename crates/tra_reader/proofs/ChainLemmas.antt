@@ -1,5 +1,6 @@
 -- The chain of entries keeps the limits of a chain.
-use Rattle.std.proofs.Common.{◌≡◌, ◌≢◌, ℕ, suc, ◌<◌, ◌≤◌, inl, inr, Bool, true, false, ◌&&◌, ◌==◌, cond, nat_lt, List, [], ◌∷◌, length, map, get_or, count_by, ap, refl, sym, subst, ◌∙◌, arith}
+use Rattle.std.proofs.Common.{◌≡◌, ◌≢◌, ℕ, suc, ◌<◌, ◌≤◌, inl, inr, Bool, true, false, ◌&&◌, ◌==◌, cond, nat_lt, List, [], ◌∷◌, length}
+use Rattle.std.proofs.Common.{map, get_or, count_by, ap, refl, sym, subst, ◌∙◌, arith}
 use Rattle.std.specs.List.{All, AllPairs, AllZip}
 use Rattle.std.proofs.lemmas.Bool.{cases_Bool, and_parts, eqb-true, ltb-true, cond-true, cond-false, false_from_ne_true}
 use Rattle.std.proofs.lemmas.List.{get_or-map, length-map}
@@ -27,7 +28,8 @@ use Rattle.tra_reader.proofs.RateLimits.{exit_sum-chain}
 use Rattle.tra_reader.proofs.TransitionKinds.{same_pair}
 
 -- the entries of lines are between states, with rates that words can write
-pub kept_lines : (n : ℕ) (lines : List WordLine) (es : List (EntryLine Pair)) → AllZip (IsEntryLine (transition_lines n) pair_of) lines es → All (IsKept n) es
+pub kept_lines : (n : ℕ) (lines : List WordLine) (es : List (EntryLine Pair)) → AllZip (IsEntryLine (transition_lines n) pair_of) lines es
+    → All (IsKept n) es
 kept_lines n lines es h =
     zip_right (IsEntryLine (transition_lines n) pair_of) (IsKept n)
     (λ line e is. let states = is.is.key.in_range in record {
@@ -39,22 +41,26 @@ kept_lines n lines es h =
 -- ---- the transitions of n states
 
 pub few_decimals : (n : ℕ) (es : List (EntryLine Pair)) → All (IsKept n) es → greatest_decimals (map value_of es) ≤ 18
-few_decimals n es h = greatest_within 18 (map value_of es) (All-map (λ (d : DecimalNumber). d.x ≤ 18) value_of es (λ k d l. (h k d l).decimals))
+few_decimals n es h =
+    greatest_within 18 (map value_of es) (All-map (λ (d : DecimalNumber). d.x ≤ 18) value_of es (λ k d l. (h k d l).decimals))
 
 -- the states of entries that are kept are states from 1
 states_are : (n : ℕ) (es : List (EntryLine Pair)) → All (IsKept n) es → All (λ e. AreStates n e.key) (entries_of pair_of es)
 states_are n es h =
     All-map (λ (e : Transition). AreStates n e.key) (entry_of pair_of) es
-    (λ k d l. let is = h k d l in record { from_state = (omega arith, omega (arith, is.from_state)); to_state = (omega arith, omega (arith, is.to_state)) })
+    (λ k d l. let is =
+    h k d l in record { from_state = (omega arith, omega (arith, is.from_state)); to_state = (omega arith, omega (arith, is.to_state)) })
 
 abbrev IsBetween : ℕ → Rate → Type 0
 IsBetween n r = (r.from < n) × (r.to < n)
 
-transitions_are : (n d : ℕ) (entries : List Transition) → All (λ e. AreStates n e.key) entries → All (IsTransition n) (chain_rates d entries)
+transitions_are : (n d : ℕ) (entries : List Transition) → All (λ e. AreStates n e.key) entries
+    → All (IsTransition n) (chain_rates d entries)
 transitions_are n d entries h k r l =
     let positive : Rate → Bool = λ r. nat_lt 0 r.rate in
     let all = All-map (IsBetween n) (scaled_rate d) entries
-    (λ i e b. let from = (h i e b).from_state in let to = (h i e b).to_state in (omega (arith, from.0, from.1), omega (arith, to.0, to.1))) in
+    (λ i e b. let from =
+    (h i e b).from_state in let to = (h i e b).to_state in (omega (arith, from.0, from.1), omega (arith, to.0, to.1))) in
     let between = All-filter positive (IsBetween n) (scaled_rates d entries) all k r l in
     let passes = filter_passes positive (scaled_rates d entries) k r l in
     record { from_within = between.0; to_within = between.1; positive = omega (arith, ltb-true 0 _ passes) }
@@ -65,14 +71,19 @@ transitions_are n d entries h k r l =
 none_pass : {X : Type 0} (p : X → Bool) (xs : List X) → ((k : ℕ) (d : X) → k < length xs → p (get_or xs k d) ≡ false) → count_by p xs ≡ 0
 none_pass p [] h = refl
 none_pass {X} p (x ∷ xs) h =
-    omega (arith, sum_by-cons (λ (y : X). cond (p y) 1 0) x xs, cond-false {A = ℕ} (p x) 1 0 (h 0 x (omega arith)), none_pass p xs (λ k d l. h (suc k) d (omega arith)))
+    omega
+    (arith, sum_by-cons (λ (y : X). cond (p y) 1 0) x xs, cond-false {A = ℕ} (p x) 1 0 (h 0 x (omega arith)), none_pass p xs (λ k d l. h (suc k) d (omega arith)))
 
 one_passes : {X : Type 0} (p : X → Bool) (xs : List X) → AllPairs (λ x y. p x ≡ true → p y ≡ true → ⊥) xs → count_by p xs ≤ 1
 one_passes p [] h = omega arith
 one_passes {X} p (x ∷ xs) h =
     elim (cases_Bool (p x)) [
-      | inl t ↦ omega (arith, sum_by-cons (λ (y : X). cond (p y) 1 0) x xs, cond-true {A = ℕ} (p x) 1 0 t, none_pass p xs (λ k d l. false_from_ne_true (p (get_or xs k d)) (h 0 (suc k) d (omega arith) (omega arith) t)))
-      | inr f ↦ omega (arith, sum_by-cons (λ (y : X). cond (p y) 1 0) x xs, cond-false {A = ℕ} (p x) 1 0 f, one_passes p xs (λ i j d l k. h (suc i) (suc j) d (omega arith) (omega arith)))
+      | inl t ↦
+          omega
+          (arith, sum_by-cons (λ (y : X). cond (p y) 1 0) x xs, cond-true {A = ℕ} (p x) 1 0 t, none_pass p xs (λ k d l. false_from_ne_true (p (get_or xs k d)) (h 0 (suc k) d (omega arith) (omega arith) t)))
+      | inr f ↦
+          omega
+          (arith, sum_by-cons (λ (y : X). cond (p y) 1 0) x xs, cond-false {A = ℕ} (p x) 1 0 f, one_passes p xs (λ i j d l k. h (suc i) (suc j) d (omega arith) (omega arith)))
     ]
 
 -- two transitions that are between the same states
@@ -103,7 +114,9 @@ new_pairs n d (e ∷ es) h once i j r l k same =
 pairs_once : (n d : ℕ) (entries : List Transition) → All (λ e. AreStates n e.key) entries → AllPairs ◌≢◌ (keys_of entries)
     → IsEachPairOnce (chain_rates d entries)
 pairs_once n d entries h once s t =
-    let kept = AllPairs-filter (λ q r. ¬ IsSameRatePair q r) (λ (r : Rate). nat_lt 0 r.rate) (scaled_rates d entries) (new_pairs n d entries h once) in
+    let kept =
+    AllPairs-filter (λ q r. ¬ IsSameRatePair q r) (λ (r : Rate). nat_lt 0 r.rate) (scaled_rates d entries) (new_pairs n d entries h once)
+    in
     one_passes (λ (r : Rate). (r.from == s) && (r.to == t)) (chain_rates d entries)
     (λ i j r l k a b.
     let first = and_parts _ _ a in

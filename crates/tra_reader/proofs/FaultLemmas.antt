@@ -1,5 +1,6 @@
 -- What is wrong with the body.
-use Rattle.std.proofs.Common.{◌≡◌, ◌≢◌, ℕ, ◌+◌, ◌<◌, ◌≤◌, List, [], ◌∷◌, ◌++◌, length, map, take, get_or, inl, inr, refl, sym, subst, ap, ◌∙◌, arith, append_assoc}
+use Rattle.std.proofs.Common.{◌≡◌, ◌≢◌, ℕ, ◌+◌, ◌<◌, ◌≤◌, List, [], ◌∷◌, ◌++◌, length, map, take, get_or, inl, inr, refl, sym, subst, ap}
+use Rattle.std.proofs.Common.{◌∙◌, arith, append_assoc}
 use Rattle.std.proofs.lemmas.List.{get_or-map, get_or-take, length-map, length-take, take_all, take-map}
 use Rattle.std.specs.List.{AllPairs, Contains}
 use Rattle.text_lines.proofs.EntryReads.{split_at, zip_long, are_entries, read_all}
@@ -43,7 +44,9 @@ pair_at es i d within =
 apart_from_numbers : (es : List (EntryLine Pair)) (place : ℕ) → AllPairs ◌≢◌ (take place (map number_of es)) → AreApart (take place es)
 apart_from_numbers es place h i j d below inside same =
     let some = take place es in
-    let within : j < length some = omega (arith, inside, length-map some (entry_of pair_of), length-map (entries_of pair_of some) (λ z. z.key)) in
+    let within : j < length some =
+    omega (arith, inside, length-map some (entry_of pair_of), length-map (entries_of pair_of some) (λ z. z.key))
+    in
     let e : Pair = (get_or some i no_entry).key in
     let f : Pair = (get_or some j no_entry).key in
     let all : AllPairs ◌≢◌ (map number_of some) = subst (AllPairs ◌≢◌) (take-map number_of place es) h in
@@ -55,7 +58,8 @@ apart_from_numbers es place h i j d below inside same =
     all i j 0 below (omega (arith, within, length-map some number_of)) (omega (arith, first, second, from, to))
 
 -- equal numbers are of the same pair
-same_from_numbers : (e f : EntryLine Pair) → e.key.to < 65536 → f.key.to < 65536 → number_of e ≡ number_of f → pair_of e.key ≡ pair_of f.key
+same_from_numbers : (e f : EntryLine Pair) → e.key.to < 65536 → f.key.to < 65536 → number_of e ≡ number_of f
+    → pair_of e.key ≡ pair_of f.key
 same_from_numbers e f a b same = same_pair (pair_of e.key) (pair_of f.key) (omega arith) (omega arith)
 
 -- no pair stands twice where there is no first repeat
@@ -106,7 +110,9 @@ module _ (n count : ℕ) (rows : List WordLine) (es : List (EntryLine Pair)) (mo
         let there : Contains (pairs some) (pair_of e.key) = (
           i,
           omega (arith, short, length-map some (entry_of pair_of), length-map (entries_of pair_of some) (λ z. z.key)),
-          pair_at some i (pair_of e.key) short ∙ ap (λ (z : EntryLine Pair). pair_of z.key) (get_or-take place es i no_entry again.1) ∙ same_from_numbers f e f_small e_small numbers,
+          pair_at some i (pair_of e.key) short
+              ∙ ap (λ (z : EntryLine Pair). pair_of z.key) (get_or-take place es i no_entry again.1)
+              ∙ same_from_numbers f e f_small e_small numbers,
         ) in
         record {
           after = after;
@@ -116,7 +122,9 @@ module _ (n count : ℕ) (rows : List WordLine) (es : List (EntryLine Pair)) (mo
             more = s.after ++ more;
             entries = entries_of pair_of some;
             split = read.split ∙ (ap (λ z. z ++ more) s.is ∙ append_assoc s.before (s.x ∷ s.after) more);
-            are = are_entries (transition_lines n) pair_of s.before some (record { each = s.each; once = apart_from_numbers es place first.once });
+            are =
+                are_entries (transition_lines n) pair_of s.before some
+                (record { each = s.each; once = apart_from_numbers es place first.once });
             fails = record { entry = entry_of pair_of e; is = (s.here d).is; earlier = there };
             here = sym (s.here d).here;
           };
@@ -124,7 +132,8 @@ module _ (n count : ℕ) (rows : List WordLine) (es : List (EntryLine Pair)) (mo
         }
 
     -- the line at which reading stopped fails
-    pub stop_fails : (end number : ℕ) (fault : FileWhat) → AreApart es → IsFailing n count (length es) more number fault → LinesHaveFault lines end number fault
+    pub stop_fails : (end number : ℕ) (fault : FileWhat) → AreApart es → IsFailing n count (length es) more number fault
+        → LinesHaveFault lines end number fault
     unfolding after
     stop_fails end number fault apart h =
         wrong_line lines end number fault (record {
@@ -196,9 +205,11 @@ module _ (body : Body) (place : ℕ) (first : IsFirstRepeat (map number_of body.
 
     pub further : (lines : List WordLine) (end number : ℕ) → body.stop ≡ Further number → IsBodyFault lines end body number what.Count
     further lines end number e n count rows head is =
-        inr (too_many n count rows body.entries.items is.more is.read lines head number apart (subst (StopsAt n count (length body.entries.items) is.more) e is.stops))
+        inr
+        (too_many n count rows body.entries.items is.more is.read lines head number apart (subst (StopsAt n count (length body.entries.items) is.more) e is.stops))
 
-    pub failing : (lines : List WordLine) (end number : ℕ) (fault : FileWhat) → body.stop ≡ Failing number fault → IsBodyFault lines end body number fault
+    pub failing : (lines : List WordLine) (end number : ℕ) (fault : FileWhat) → body.stop ≡ Failing number fault
+        → IsBodyFault lines end body number fault
     failing lines end number fault e n count rows head is =
         stop_fails n count rows body.entries.items is.more is.read lines head end number fault apart
         (subst (StopsAt n count (length body.entries.items) is.more) e is.stops)

@@ -30,7 +30,8 @@ same_line l k ls ks e = cc
 same_lines : (l k : WordLine) (ls ks : List WordLine) → l ∷ ls ≡ k ∷ ks → ls ≡ ks
 same_lines l k ls ks e = cc
 
-count_case_unique : (keyword : List ℕ) (lines : List WordLine) (p q : CountCase) → IsCountCase keyword lines p → IsCountCase keyword lines q → p ≡ q
+count_case_unique : (keyword : List ℕ) (lines : List WordLine) (p q : CountCase) → IsCountCase keyword lines p
+    → IsCountCase keyword lines q → p ≡ q
 count_case_unique keyword lines NoCount NoCount h k = refl
 count_case_unique keyword lines NoCount (Counts number count others) h k = absurd (h count others k.0)
 count_case_unique keyword lines (Counts number count others) NoCount h k = absurd (k count others h.0)
@@ -49,11 +50,13 @@ count_case_unique keyword lines (Counts number count others) (Counts number' cou
     second a b c d e = cc
 
 -- a first line with other words
-not_two : (keyword : List ℕ) (line : WordLine) (lines : List WordLine) → ((word : List ℕ) → IsNumeral 10 word → line.words ≡ keyword ∷ word ∷ [] → ⊥) → IsCountCase keyword (line ∷ lines) NoCount
+not_two : (keyword : List ℕ) (line : WordLine) (lines : List WordLine)
+    → ((word : List ℕ) → IsNumeral 10 word → line.words ≡ keyword ∷ word ∷ [] → ⊥) → IsCountCase keyword (line ∷ lines) NoCount
 not_two keyword line lines n count others b =
     n b.says.word b.says.whole.digits (ap (λ z. z.words) (same_line line b.line lines others b.first) ∙ b.says.are)
 
-of_two : (keyword : List ℕ) (line : WordLine) (lines : List WordLine) (a b : List ℕ) → line.words ≡ a ∷ b ∷ [] → (c : CountCase) × IsCountCase keyword (line ∷ lines) c
+of_two : (keyword : List ℕ) (line : WordLine) (lines : List WordLine) (a b : List ℕ) → line.words ≡ a ∷ b ∷ []
+    → (c : CountCase) × IsCountCase keyword (line ∷ lines) c
 of_two keyword line lines a b e =
     elim (cases_Bool (bytes_eq a keyword)) [
       | inr f ↦ (
@@ -96,11 +99,13 @@ some_count_case keyword [] = (NoCount, λ count others b. nothing others b.line 
   nothing : (ls : List WordLine) (l : WordLine) → [] ≡ l ∷ ls → ⊥
   nothing ls l e = cc
 some_count_case keyword (line ∷ lines) = by_words keyword line lines line.words refl where
-  by_words : (keyword : List ℕ) (line : WordLine) (lines : List WordLine) (words : List (List ℕ)) → line.words ≡ words → (c : CountCase) × IsCountCase keyword (line ∷ lines) c
+  by_words : (keyword : List ℕ) (line : WordLine) (lines : List WordLine) (words : List (List ℕ)) → line.words ≡ words
+      → (c : CountCase) × IsCountCase keyword (line ∷ lines) c
   by_words keyword line lines [] e = (NoCount, not_two keyword line lines (λ word d h. zero_words keyword word (sym e ∙ h)))
   by_words keyword line lines (a ∷ []) e = (NoCount, not_two keyword line lines (λ word d h. one_word a keyword word (sym e ∙ h)))
   by_words keyword line lines (a ∷ b ∷ []) e = of_two keyword line lines a b e
-  by_words keyword line lines (a ∷ b ∷ c ∷ more) e = (NoCount, not_two keyword line lines (λ word d h. more_words a b c more keyword word (sym e ∙ h)))
+  by_words keyword line lines (a ∷ b ∷ c ∷ more) e =
+      (NoCount, not_two keyword line lines (λ word d h. more_words a b c more keyword word (sym e ∙ h)))
 
 count_case : List ℕ → List WordLine → CountCase
 count_case keyword lines = (some_count_case keyword lines).0
@@ -125,7 +130,8 @@ IsHeadCase lines end (NoHead number w) = LinesHaveFault lines end number w
 
 abbrev by_transitions : ℕ → List WordLine → ℕ → CountCase → HeadCase
 by_transitions n others end NoCount = NoHead (line_or_end others end) what.Header
-by_transitions n others end (Counts number count body) = cond (nat_lt MOST_TRANSITIONS count) (NoHead number what.TransitionsRange) (Head n count body)
+by_transitions n others end (Counts number count body) =
+    cond (nat_lt MOST_TRANSITIONS count) (NoHead number what.TransitionsRange) (Head n count body)
 
 abbrev by_states : List WordLine → ℕ → CountCase → HeadCase
 by_states lines end NoCount = NoHead (line_or_end lines end) what.Header
@@ -136,43 +142,52 @@ pub head_case : List WordLine → ℕ → HeadCase
 head_case lines end = by_states lines end (count_case (codes "STATES") lines)
 
 -- the line of the states is right
-with_states : (lines : List WordLine) (end n : ℕ) (others : List WordLine) → HasStates lines n others → head_case lines end ≡ by_transitions n others end (count_case (codes "TRANSITIONS") others)
+with_states : (lines : List WordLine) (end n : ℕ) (others : List WordLine) → HasStates lines n others
+    → head_case lines end ≡ by_transitions n others end (count_case (codes "TRANSITIONS") others)
 unfolding head_case
 with_states lines end n others h =
     ap (by_states lines end) (count_case_is (codes "STATES") lines (Counts h.begins.line.number n others) (h.begins, refl))
     ∙ cond-true (is_state MOST_STATES n) _ _ ((state_decides MOST_STATES n).1 h.range)
 
-with_head : (lines : List WordLine) (end n : ℕ) (others : List WordLine) (count : ℕ) (body : List WordLine) → HasStates lines n others → (b : BeginsWithCount (codes "TRANSITIONS") others count body) → head_case lines end ≡ by_transitions n others end (Counts b.line.number count body)
+with_head : (lines : List WordLine) (end n : ℕ) (others : List WordLine) (count : ℕ) (body : List WordLine) → HasStates lines n others
+    → (b : BeginsWithCount (codes "TRANSITIONS") others count body)
+    → head_case lines end ≡ by_transitions n others end (Counts b.line.number count body)
 with_head lines end n others count body h b =
     with_states lines end n others h
     ∙ ap (by_transitions n others end) (count_case_is (codes "TRANSITIONS") others (Counts b.line.number count body) (b, refl))
 
 -- the head is right
-pub head_is : (lines : List WordLine) (end n count : ℕ) (body : List WordLine) → HasHead lines n count body → head_case lines end ≡ Head n count body
+pub head_is : (lines : List WordLine) (end n count : ℕ) (body : List WordLine) → HasHead lines n count body
+    → head_case lines end ≡ Head n count body
 head_is lines end n count body h =
     with_head lines end n h.others count body h.states h.begins
     ∙ cond-false (nat_lt MOST_TRANSITIONS count) _ _ (le-ltb MOST_TRANSITIONS count h.few)
 
-pub lacks_states : (lines : List WordLine) (end number : ℕ) → LacksCount (codes "STATES") lines end number → head_case lines end ≡ NoHead number what.Header
+pub lacks_states : (lines : List WordLine) (end number : ℕ) → LacksCount (codes "STATES") lines end number
+    → head_case lines end ≡ NoHead number what.Header
 unfolding head_case
 lacks_states lines end number h =
     ap (by_states lines end) (count_case_is (codes "STATES") lines NoCount h.lacks)
     ∙ ap (λ z. NoHead z what.Header) (sym h.here)
 
-pub lacks_transitions : (lines : List WordLine) (end number : ℕ) → LacksTransitions lines end number → head_case lines end ≡ NoHead number what.Header
+pub lacks_transitions : (lines : List WordLine) (end number : ℕ) → LacksTransitions lines end number
+    → head_case lines end ≡ NoHead number what.Header
 lacks_transitions lines end number h =
     with_states lines end h.n h.others h.states
     ∙ ap (by_transitions h.n h.others end) (count_case_is (codes "TRANSITIONS") h.others NoCount h.lacks.lacks)
     ∙ ap (λ z. NoHead z what.Header) (sym h.lacks.here)
 
-pub states_outside : (lines : List WordLine) (end number : ℕ) → StatesOutOfRange lines number → head_case lines end ≡ NoHead number what.StatesRange
+pub states_outside : (lines : List WordLine) (end number : ℕ) → StatesOutOfRange lines number
+    → head_case lines end ≡ NoHead number what.StatesRange
 unfolding head_case
 states_outside lines end number h =
     ap (by_states lines end) (count_case_is (codes "STATES") lines (Counts h.begins.line.number h.n h.others) (h.begins, refl))
-    ∙ cond-false (is_state MOST_STATES h.n) _ _ (false_from_ne_true (is_state MOST_STATES h.n) (λ t. h.outside ((state_decides MOST_STATES h.n).0 t)))
+    ∙ cond-false (is_state MOST_STATES h.n) _ _
+    (false_from_ne_true (is_state MOST_STATES h.n) (λ t. h.outside ((state_decides MOST_STATES h.n).0 t)))
     ∙ ap (λ z. NoHead z what.StatesRange) (sym h.here)
 
-pub transitions_outside : (lines : List WordLine) (end number : ℕ) → TransitionsOutOfRange lines number → head_case lines end ≡ NoHead number what.TransitionsRange
+pub transitions_outside : (lines : List WordLine) (end number : ℕ) → TransitionsOutOfRange lines number
+    → head_case lines end ≡ NoHead number what.TransitionsRange
 transitions_outside lines end number h =
     with_head lines end h.n h.others h.count h.body h.states h.begins
     ∙ cond-true (nat_lt MOST_TRANSITIONS h.count) _ _ (lt-ltb MOST_TRANSITIONS h.count h.outside)
@@ -180,7 +195,8 @@ transitions_outside lines end number h =
 
 -- ---- the head is what `head_case` says
 
-transitions_hold : (lines : List WordLine) (end n : ℕ) (others : List WordLine) (c : CountCase) → HasStates lines n others → IsCountCase (codes "TRANSITIONS") others c → IsHeadCase lines end (by_transitions n others end c)
+transitions_hold : (lines : List WordLine) (end n : ℕ) (others : List WordLine) (c : CountCase) → HasStates lines n others
+    → IsCountCase (codes "TRANSITIONS") others c → IsHeadCase lines end (by_transitions n others end c)
 transitions_hold lines end n others NoCount h k =
     inr (record { n = n; others = others; states = h; lacks = record { lacks = k; here = refl } })
 transitions_hold lines end n others (Counts number count body) h k =
@@ -195,7 +211,8 @@ transitions_hold lines end n others (Counts number count body) h k =
           (record { others = others; states = h; begins = k.0; few = few })
     ]
 
-states_hold : (lines : List WordLine) (end : ℕ) (c : CountCase) → IsCountCase (codes "STATES") lines c → IsHeadCase lines end (by_states lines end c)
+states_hold : (lines : List WordLine) (end : ℕ) (c : CountCase) → IsCountCase (codes "STATES") lines c
+    → IsHeadCase lines end (by_states lines end c)
 states_hold lines end NoCount k = inl (record { lacks = k; here = refl })
 states_hold lines end (Counts number n others) k =
     let right = by_transitions n others end (count_case (codes "TRANSITIONS") others) in
@@ -203,10 +220,21 @@ states_hold lines end (Counts number n others) k =
     elim (cases_Bool (is_state MOST_STATES n)) [
       | inl t ↦
           subst (IsHeadCase lines end) (sym (cond-true (is_state MOST_STATES n) right outside t))
-          (transitions_hold lines end n others (count_case (codes "TRANSITIONS") others) (record { begins = k.0; range = (state_decides MOST_STATES n).0 t }) (count_case_holds (codes "TRANSITIONS") others))
+          (transitions_hold lines end n others (count_case (codes "TRANSITIONS") others) (record {
+            begins =
+                k.0;
+            range = (state_decides MOST_STATES n).0 t;
+          }) (count_case_holds (codes "TRANSITIONS") others))
       | inr f ↦
           subst (IsHeadCase lines end) (sym (cond-false (is_state MOST_STATES n) right outside f))
-          (record { n = n; others = others; begins = k.0; outside = λ r. both_ways (is_state MOST_STATES n) f ((state_decides MOST_STATES n).1 r); here = sym k.1 })
+          (record {
+            n =
+                n;
+            others = others;
+            begins = k.0;
+            outside = λ r. both_ways (is_state MOST_STATES n) f ((state_decides MOST_STATES n).1 r);
+            here = sym k.1;
+          })
     ]
 
 pub head_holds : (lines : List WordLine) (end : ℕ) → IsHeadCase lines end (head_case lines end)

@@ -10,7 +10,9 @@ use Rattle.tra_reader.specs.TraFault.{LacksCount, StatesOutOfRange, TransitionsO
 use Rattle.tra_reader.specs.declared.head.CountLine.{CountLine}
 
 -- the lines begin with the count that the first of them says
-pub count-said : (limit : ℕ) (keyword : List ℕ) (line : LineText) (rows others : List WordLine) (c : ℕ) → rows ≡ word_line line ∷ others → IsCountUpTo limit keyword (line_words line.bytes) c → IsNextCount limit keyword rows (record { number = line.number; count = c }) others
+pub count-said : (limit : ℕ) (keyword : List ℕ) (line : LineText) (rows others : List WordLine) (c : ℕ) → rows ≡ word_line line ∷ others
+    → IsCountUpTo limit keyword (line_words line.bytes) c
+    → IsNextCount limit keyword rows (record { number = line.number; count = c }) others
 count-said limit keyword line rows others c first said =
     record {
       count = said.0;
@@ -20,7 +22,8 @@ count-said limit keyword line rows others c first said =
     }
 
 -- and with no count where it says none
-pub count-lacking : (keyword : List ℕ) (line : LineText) (rows others : List WordLine) (end : ℕ) → rows ≡ word_line line ∷ others → ((count : ℕ) → ¬ SaysCount keyword (line_words line.bytes) count) → LacksCount keyword rows end line.number
+pub count-lacking : (keyword : List ℕ) (line : LineText) (rows others : List WordLine) (end : ℕ) → rows ≡ word_line line ∷ others
+    → ((count : ℕ) → ¬ SaysCount keyword (line_words line.bytes) count) → LacksCount keyword rows end line.number
 count-lacking keyword line rows others end first none = record {
   lacks = λ count more b.
       let both : word_line line ∷ others ≡ b.line ∷ more = sym first ∙ b.first in
@@ -41,12 +44,14 @@ module _ (limit : ℕ) (most : limit ≡ MOST_STATES) (rows others : List WordLi
     n = is.count;
     others = others;
     begins = is.begins;
-    outside = λ within. elim range [ inl none ↦ omega (arith, is.known, within.0) | inr many ↦ omega (arith, most, is.known, within.1, many.1) ];
+    outside =
+        λ within. elim range [ inl none ↦ omega (arith, is.known, within.0) | inr many ↦ omega (arith, most, is.known, within.1, many.1) ];
     here = is.here;
   }
 
   -- the number of states is in range, and that of the transitions is not
-  pub transitions-outside : (body : List WordLine) (c : CountLine) → s.count ≢ 0 → s.count ≤ limit → IsNextCount MOST_TRANSITIONS (codes "TRANSITIONS") others c body
+  pub transitions-outside : (body : List WordLine) (c : CountLine) → s.count ≢ 0 → s.count ≤ limit
+      → IsNextCount MOST_TRANSITIONS (codes "TRANSITIONS") others c body
       → MOST_TRANSITIONS < c.count → TransitionsOutOfRange rows c.number
   transitions-outside body c some few next many = record {
     n = is.count;

@@ -1,7 +1,9 @@
 -- The rates at the scale, one entry after another.
-use Rattle.std.proofs.Common.{◌≡◌, ℕ, ◌+◌, ◌-◌, ◌<◌, ◌≤◌, Bool, true, false, cond, List, [], ◌∷◌, ◌++◌, length, map, take, set, replicate, get_or, inl, inr, refl, sym, ap, subst, ◌∙◌, arith}
+use Rattle.std.proofs.Common.{◌≡◌, ℕ, ◌+◌, ◌-◌, ◌<◌, ◌≤◌, Bool, true, false, cond, List, [], ◌∷◌, ◌++◌, length, map, take, set, replicate}
+use Rattle.std.proofs.Common.{get_or, inl, inr, refl, sym, ap, subst, ◌∙◌, arith}
 use Rattle.std.proofs.lemmas.Bool.{cases_eq, eq-eqb, ne_eqb}
-use Rattle.std.proofs.lemmas.List.{map-append, append-nil, take_all, get_or-set_same, get_or-set_other, length-set, length-replicate, get_or-replicate}
+use Rattle.std.proofs.lemmas.List.{map-append, append-nil, take_all, get_or_default, get_or-set_same, get_or-set_other, length-set}
+use Rattle.std.proofs.lemmas.List.{length-replicate, get_or-replicate}
 use Rattle.std.proofs.lemmas.List.Elements.{All-nil, All-cons, filter-append}
 use Rattle.std.proofs.lemmas.List.Sums.{sum_by_push, sum_by-cons}
 use Rattle.std.specs.Bool.{◌==◌, nat_lt}
@@ -55,7 +57,8 @@ pick-elsewhere s r n = ap (λ b. cond b r.rate 0) (ne_eqb r.from s n)
 sum_of-more : (scale : ℕ) (es : List (EntryLine Pair)) (i : ℕ) (d : EntryLine Pair) (s : ℕ) → i < length es
     → sum_of scale (take (i + 1) es) s ≡ sum_of scale (take i es) s + pick s (scaled_rate scale (entry (get_or es i d)))
 sum_of-more scale es i d s within =
-    ap (sum_by (pick s)) (rates-more scale es i d within) ∙ sum_by_push (pick s) (scaled_rates scale (entries (take i es))) (scaled_rate scale (entry (get_or es i d)))
+    ap (sum_by (pick s)) (rates-more scale es i d within)
+    ∙ sum_by_push (pick s) (scaled_rates scale (entries (take i es))) (scaled_rate scale (entry (get_or es i d)))
 
 sum_of-same : (scale : ℕ) (es : List (EntryLine Pair)) (i : ℕ) (d : EntryLine Pair) → i < length es
     → sum_of scale (take (i + 1) es) (get_or es i d).key.from ≡ sum_of scale (take i es) (get_or es i d).key.from + rate_at scale (get_or es i d)
@@ -64,7 +67,8 @@ sum_of-same scale es i d within =
     sum_of-more scale es i d e.key.from within
     ∙ ap (λ z. sum_of scale (take i es) e.key.from + z) (pick-here e.key.from (scaled_rate scale (entry e)) (omega arith))
 
-sum_of-other : (scale : ℕ) (es : List (EntryLine Pair)) (i : ℕ) (d : EntryLine Pair) (s : ℕ) → i < length es → ((get_or es i d).key.from ≡ s → ⊥)
+sum_of-other : (scale : ℕ) (es : List (EntryLine Pair)) (i : ℕ) (d : EntryLine Pair) (s : ℕ) → i < length es
+    → ((get_or es i d).key.from ≡ s → ⊥)
     → sum_of scale (take (i + 1) es) s ≡ sum_of scale (take i es) s
 sum_of-other scale es i d s within other =
     let e = get_or es i d in
@@ -93,20 +97,39 @@ pub record IsNextSum (scale n : ℕ) (es : List (EntryLine Pair)) (i : ℕ) (d :
   pub is : sum ≡ get_or sums (get_or es i d).key.from 0 + rate_at scale (get_or es i d)
   pub before : AreSums scale n (take i es) sums
 
+-- as the code adds it up: from is the state, and old the sum so far, which the code reads with some default
+pub next_sum : (scale n : ℕ) (es : List (EntryLine Pair)) (i : ℕ) (d : EntryLine Pair) (sums : List ℕ) (from old default value : ℕ)
+    → i < length es
+    → (get_or es i d).key.from < n → AreSums scale n (take i es) sums → from ≡ (get_or es i d).key.from → old ≡ get_or sums from default
+    → value ≡ rate_at scale (get_or es i d) → IsNextSum scale n es i d sums (old + value)
+next_sum scale n es i d sums from old default value within state before from_is old_is value_is =
+    let s = (get_or es i d).key.from in
+    let here : old ≡ get_or sums s 0 =
+    old_is ∙ ap (λ z. get_or sums z default) from_is ∙ get_or_default sums s default 0 (omega (arith, state, before.long))
+    in
+    record { within = within; state = state; is = omega (arith, here, value_is); before = before }
+
 module _ (scale n : ℕ) (es : List (EntryLine Pair)) (i : ℕ) (d : EntryLine Pair) (sums : List ℕ) (sum : ℕ) (next : IsNextSum scale n es i d sums sum) where
   -- it stays below the limit
   pub sums-more : sum < AMOUNT_LIMIT → AreSums scale n (take (i + 1) es) (set sums (get_or es i d).key.from sum)
   sums-more small =
       let from = (get_or es i d).key.from in
       let h = next.before in
-      let here : sum ≡ sum_of scale (take (i + 1) es) from = omega (arith, next.is, h.each from next.state, sum_of-same scale es i d next.within) in
+      let here : sum ≡ sum_of scale (take (i + 1) es) from =
+      omega (arith, next.is, h.each from next.state, sum_of-same scale es i d next.within)
+      in
       record {
         long = length-set sums from sum ∙ h.long;
         each = λ s in_range. elim (cases_eq from s) [
           | inl same ↦
-              let at_from : get_or (set sums from sum) from 0 ≡ sum_of scale (take (i + 1) es) from = get_or-set_same sums from sum 0 (omega (arith, h.long, next.state)) ∙ here in
+              let at_from : get_or (set sums from sum) from 0 ≡ sum_of scale (take (i + 1) es) from =
+              get_or-set_same sums from sum 0 (omega (arith, h.long, next.state)) ∙ here
+              in
               rw (← same) at_from
-          | inr other ↦ get_or-set_other sums from s sum 0 (λ e. other (sym e)) ∙ h.each s in_range ∙ sym (sum_of-other scale es i d s next.within other)
+          | inr other ↦
+              get_or-set_other sums from s sum 0 (λ e. other (sym e))
+              ∙ h.each s in_range
+              ∙ sym (sum_of-other scale es i d s next.within other)
         ];
         below = λ s. elim (cases_eq from s) [
           | inl same ↦
@@ -127,7 +150,8 @@ module _ (scale n : ℕ) (es : List (EntryLine Pair)) (i : ℕ) (d : EntryLine P
       }
 
 -- no sum goes past it
-pub sums-all : (scale n i : ℕ) (es : List (EntryLine Pair)) (sums : List ℕ) → length es ≤ i → AreSums scale n (take i es) sums → AreWithin scale (entries es)
+pub sums-all : (scale n i : ℕ) (es : List (EntryLine Pair)) (sums : List ℕ) → length es ≤ i → AreSums scale n (take i es) sums
+    → AreWithin scale (entries es)
 sums-all scale n i es sums end h = subst (λ z. AreWithin scale (entries z)) (take_all i es end) h.below
 
 -- ---- the transitions of the chain
@@ -156,13 +180,15 @@ chain-more scale es i d within =
     ∙ filter-append is_some before (scaled_rate scale (entry e) ∷ [])
     ∙ ap (λ z. filter is_some before ++ filter is_some (z ∷ [])) (scaled-kept scale e)
 
-pub chain-kept : (scale : ℕ) (es : List (EntryLine Pair)) (i : ℕ) (d : EntryLine Pair) → i < length es → nat_lt 0 (rate_at scale (get_or es i d)) ≡ true
+pub chain-kept : (scale : ℕ) (es : List (EntryLine Pair)) (i : ℕ) (d : EntryLine Pair) → i < length es
+    → nat_lt 0 (rate_at scale (get_or es i d)) ≡ true
     → chain_rates scale (entries (take (i + 1) es)) ≡ chain_rates scale (entries (take i es)) ++ kept_rate scale (get_or es i d) ∷ []
 chain-kept scale es i d within some =
     let r = kept_rate scale (get_or es i d) in
     chain-more scale es i d within ∙ ap (λ b. chain_rates scale (entries (take i es)) ++ cond b (r ∷ []) []) some
 
-pub chain-dropped : (scale : ℕ) (es : List (EntryLine Pair)) (i : ℕ) (d : EntryLine Pair) → i < length es → nat_lt 0 (rate_at scale (get_or es i d)) ≡ false
+pub chain-dropped : (scale : ℕ) (es : List (EntryLine Pair)) (i : ℕ) (d : EntryLine Pair) → i < length es
+    → nat_lt 0 (rate_at scale (get_or es i d)) ≡ false
     → chain_rates scale (entries (take (i + 1) es)) ≡ chain_rates scale (entries (take i es))
 chain-dropped scale es i d within none =
     let r = kept_rate scale (get_or es i d) in
@@ -180,4 +206,5 @@ rates-fit scale (e ∷ es) below =
     let from = e.key.from + 1 - 1 in
     let itself : pick from (scaled_rate scale (entry e)) ≡ rate_at scale e = pick-here from (scaled_rate scale (entry e)) refl in
     let first = λ (s : ℕ). sum_by-cons (pick s) (scaled_rate scale (entry e)) (scaled_rates scale (entries es)) in
-    All-cons (λ x. rate_at scale x < AMOUNT_LIMIT) e es (omega (arith, itself, below from, first from)) (rates-fit scale es (λ s. omega (arith, below s, first s)))
+    All-cons (λ x. rate_at scale x < AMOUNT_LIMIT) e es (omega (arith, itself, below from, first from))
+    (rates-fit scale es (λ s. omega (arith, below s, first s)))

@@ -1,5 +1,6 @@
 -- What the lines of a text say, as a function: a chain, or a fault. Nothing else is said by the definitions, and this is.
-use Rattle.std.proofs.Common.{◌≡◌, ℕ, ◌<◌, inl, inr, Option, Some, None, List, [], ◌∷◌, ◌++◌, length, take, ap, refl, sym, subst, ◌∙◌, arith}
+use Rattle.std.proofs.Common.{◌≡◌, ℕ, ◌<◌, inl, inr, Option, Some, None, List, [], ◌∷◌, ◌++◌, length, take, ap, refl, sym, subst, ◌∙◌}
+use Rattle.std.proofs.Common.{arith}
 use Rattle.std.proofs.lemmas.List.{take_all}
 use Rattle.model_core.specs.Files.{TraLists}
 use Rattle.model_core.specs.Transitions.{exit_sum}
@@ -17,8 +18,10 @@ use Rattle.text_lines.specs.declared.fault.FileWhat.TheVariants as what
 use Rattle.tra_reader.specs.Entries.{StatePair, Transition, transition_lines}
 use Rattle.tra_reader.specs.TraText.{AreWithin, HasTooLarge, chain_rates, LinesSayTra, TraSays}
 use Rattle.tra_reader.specs.TraFault.{HasBody, HasWrongLine, HasRatesOutOfRange, LinesHaveFault, TraFaultAt}
-use Rattle.tra_reader.proofs.BodyCases.{miscount, exact_is, few_is, many_is, CountCase, Exact, Few, Many, miscount_holds, take_front, due_fails, fails_due}
-use Rattle.tra_reader.proofs.HeadCases.{HeadCase, Head, NoHead, IsHeadCase, head_case, head_is, lacks_states, lacks_transitions, states_outside, transitions_outside, head_holds}
+use Rattle.tra_reader.proofs.BodyCases.{miscount, exact_is, few_is, many_is, CountCase, Exact, Few, Many, miscount_holds, take_front}
+use Rattle.tra_reader.proofs.BodyCases.{due_fails, fails_due}
+use Rattle.tra_reader.proofs.HeadCases.{HeadCase, Head, NoHead, IsHeadCase, head_case, head_is, lacks_states, lacks_transitions}
+use Rattle.tra_reader.proofs.HeadCases.{states_outside, transitions_outside, head_holds}
 use Rattle.tra_reader.proofs.RateLimits.{exit_sum-chain, rate_limit}
 use Rattle.tra_reader.proofs.TransitionKinds.{transitions_decided}
 
@@ -88,7 +91,9 @@ module _ (lines : List WordLine) (end : ℕ) where
   says_is tra h =
       let d = scale_of h.entries in
       let rates : tra.rates ≡ chain_rates d h.entries = h.rates ∙ ap (λ z. chain_rates z h.entries) h.scale in
-      let within : AreWithin d h.entries = λ s. subst (λ z. z < AMOUNT_LIMIT) (ap (λ z. exit_sum z s) rates ∙ exit_sum-chain d h.entries s) (h.exits s) in
+      let within : AreWithin d h.entries =
+      λ s. subst (λ z. z < AMOUNT_LIMIT) (ap (λ z. exit_sum z s) rates ∙ exit_sum-chain d h.entries s) (h.exits s)
+      in
       let by_scale : ℕ → TraLists = λ z. record { n = tra.n; scale = z; rates = chain_rates d h.entries } in
       let by_list : List Rate → TraLists = λ z. record { n = tra.n; scale = tra.scale; rates = z } in
       after_all (record { n = tra.n; count = h.count; body = h.body; head = h.head }) h.entries h.all h.are
@@ -101,8 +106,10 @@ module _ (lines : List WordLine) (end : ℕ) where
       ∙ ap (by_count h.after.n h.after.body h.entries) (few_is end h.after.count h.after.body h.short)
       ∙ ap (λ z. Faults z what.Count) (sym h.here)
   count_is number (inr h) =
-      after_lines h.after h.front h.entries (ap (take h.after.count) h.split ∙ take_front h.front (h.line ∷ h.more) h.after.count h.full) h.are
-      ∙ ap (by_count h.after.n h.after.body h.entries) (ap (miscount end h.after.count) h.split ∙ many_is end h.after.count h.front h.line h.more h.full)
+      after_lines h.after h.front h.entries
+      (ap (take h.after.count) h.split ∙ take_front h.front (h.line ∷ h.more) h.after.count h.full) h.are
+      ∙ ap (by_count h.after.n h.after.body h.entries)
+      (ap (miscount end h.after.count) h.split ∙ many_is end h.after.count h.front h.line h.more h.full)
       ∙ ap (λ z. Faults z what.Count) (sym h.here)
 
   rates_is : (number : ℕ) → HasRatesOutOfRange lines number → reading ≡ Faults number what.RateRange
@@ -112,11 +119,13 @@ module _ (lines : List WordLine) (end : ℕ) where
       let d = scale_of entries in
       after_all h.after entries h.full p.are
       ∙ ap (λ z. by_rates h.after.n entries (first_large d z entries)) p.split
-      ∙ ap (by_rates h.after.n entries) (past_is (AreWithin d) (HasTooLarge d) (rate_limit d) [] p.earlier p.line p.later p.before p.entry p.after p.place p.within p.past)
+      ∙ ap (by_rates h.after.n entries)
+      (past_is (AreWithin d) (HasTooLarge d) (rate_limit d) [] p.earlier p.line p.later p.before p.entry p.after p.place p.within p.past)
       ∙ ap (λ z. Faults z what.RateRange) (sym p.here)
 
   wrong_is : (number : ℕ) (w : FileWhat) → HasWrongLine lines number w → reading ≡ Faults number w
-  wrong_is number w h = after_head h.after (Wrong number w) (due_fails (transition_lines h.after.n) h.after.body h.after.count number w h.line h.due)
+  wrong_is number w h =
+      after_head h.after (Wrong number w) (due_fails (transition_lines h.after.n) h.after.body h.after.count number w h.line h.due)
 
   fault_is : (number : ℕ) (w : FileWhat) → LinesHaveFault lines end number w → reading ≡ Faults number w
   fault_is number what.Header (inl h) = no_head number what.Header (lacks_states lines end number h)
@@ -195,7 +204,8 @@ module _ (lines : List WordLine) (end : ℕ) where
           here = h.here;
         }))
 
-    lines_hold : (c : LinesCase StatePair) → IsLinesCase (transition_lines b.n) (take b.count b.body) c → Holds (by_lines b.n b.count b.body c)
+    lines_hold : (c : LinesCase StatePair) → IsLinesCase (transition_lines b.n) (take b.count b.body) c
+        → Holds (by_lines b.n b.count b.body c)
     lines_hold (Wrong number w) h =
         let found = fails_due (transition_lines b.n) b.body b.count number w h in
         wrong_line lines end number w (record { after = b; line = found.line; due = found.due })
@@ -204,7 +214,13 @@ module _ (lines : List WordLine) (end : ℕ) where
   head_holds_so : (c : HeadCase) → IsHeadCase lines end c → Holds (by_head c)
   head_holds_so (NoHead number w) h = h
   head_holds_so (Head n count body) h =
-      lines_hold (record { n = n; count = count; body = body; head = h }) (lines_case (transition_lines n) (transitions_decided n) (take count body))
+      lines_hold (record {
+        n =
+            n;
+        count = count;
+        body = body;
+        head = h;
+      }) (lines_case (transition_lines n) (transitions_decided n) (take count body))
       (lines_case_holds (transition_lines n) (transitions_decided n) (take count body))
 
   holds : Holds reading

@@ -1,5 +1,6 @@
 -- Where numbers stand twice, by their sorted keys.
-use Rattle.std.proofs.Common.{◌≡◌, ◌≢◌, ℕ, ◌+◌, ◌-◌, ◌*◌, ◌/◌, ◌%◌, ◌<◌, ◌≤◌, min, List, length, take, get_or, inl, inr, sym, ap, ◌∙◌, arith}
+use Rattle.std.proofs.Common.{◌≡◌, ◌≢◌, ℕ, ◌+◌, ◌-◌, ◌*◌, ◌/◌, ◌%◌, ◌<◌, ◌≤◌, min, List, length, take, get_or, inl, inr, sym, ap, ◌∙◌}
+use Rattle.std.proofs.Common.{arith}
 use Rattle.std.proofs.lemmas.Bool.{cases_lt, cases_eq, cases_Bool, eqb-true, eqb-false, eq-eqb, ne_eqb}
 use Rattle.std.proofs.lemmas.Bool.Decides.{Decides-eqb}
 use Rattle.std.proofs.lemmas.List.{get_or_default, get_or-take, length-take}
@@ -21,7 +22,8 @@ pub record IsLeastSoFar (keys : List ℕ) (i mark : ℕ) : Type 0 where
   pub least : (k : ℕ) → k + 1 < i → IsSameAsNext keys k → mark ≤ get_or keys (k + 1) 0 % places
 
 -- one more key, whose number is that of the key before it
-pub mark-same : (keys : List ℕ) (i mark new : ℕ) → 1 ≤ i → i < length keys → get_or keys (i - 1) 0 / places ≡ get_or keys i 0 / places → new ≡ min mark (get_or keys i 0 % places) → IsLeastSoFar keys i mark → IsLeastSoFar keys (i + 1) new
+pub mark-same : (keys : List ℕ) (i mark new : ℕ) → 1 ≤ i → i < length keys → get_or keys (i - 1) 0 / places ≡ get_or keys i 0 / places
+    → new ≡ min mark (get_or keys i 0 % places) → IsLeastSoFar keys i mark → IsLeastSoFar keys (i + 1) new
 mark-same keys i mark new some within same is h =
     let e : i - 1 + 1 ≡ i = omega arith in
     record {
@@ -37,7 +39,8 @@ mark-same keys i mark new some within same is h =
     }
 
 -- one more key, whose number is another
-pub mark-other : (keys : List ℕ) (i mark : ℕ) → 1 ≤ i → get_or keys (i - 1) 0 / places ≢ get_or keys i 0 / places → IsLeastSoFar keys i mark → IsLeastSoFar keys (i + 1) mark
+pub mark-other : (keys : List ℕ) (i mark : ℕ) → 1 ≤ i → get_or keys (i - 1) 0 / places ≢ get_or keys i 0 / places
+    → IsLeastSoFar keys i mark → IsLeastSoFar keys (i + 1) mark
 mark-other keys i mark some other h = record {
   within = h.within;
   found = h.found;
@@ -50,7 +53,9 @@ mark-other keys i mark some other h = record {
 }
 
 -- one more number that rises
-pub rises-more : (numbers : List ℕ) (i : ℕ) → 1 ≤ i → get_or numbers (i - 1) 0 < get_or numbers i 0 → ((k : ℕ) → k + 1 < i → get_or numbers k 0 < get_or numbers (k + 1) 0) → (k : ℕ) → k + 1 < i + 1 → get_or numbers k 0 < get_or numbers (k + 1) 0
+pub rises-more : (numbers : List ℕ) (i : ℕ) → 1 ≤ i → get_or numbers (i - 1) 0 < get_or numbers i 0
+    → ((k : ℕ) → k + 1 < i → get_or numbers k 0 < get_or numbers (k + 1) 0) → (k : ℕ) → k + 1 < i + 1
+    → get_or numbers k 0 < get_or numbers (k + 1) 0
 rises-more numbers i some up h k below =
     elim (cases_eq (k + 1) i) [
       | inl last ↦
@@ -61,18 +66,25 @@ rises-more numbers i some up h k below =
     ]
 
 -- numbers that differ below a place
-once-below : (numbers : List ℕ) (place : ℕ) → place ≤ length numbers → ((a b : ℕ) → a < b → b < place → get_or numbers a 0 ≢ get_or numbers b 0) → AllPairs ◌≢◌ (take place numbers)
+once-below : (numbers : List ℕ) (place : ℕ) → place ≤ length numbers
+    → ((a b : ℕ) → a < b → b < place → get_or numbers a 0 ≢ get_or numbers b 0) → AllPairs ◌≢◌ (take place numbers)
 once-below numbers place within apart i j d below inside =
     let in_place : j < place = omega (arith, length-take place numbers) in
-    let left : get_or (take place numbers) i d ≡ get_or numbers i 0 = get_or-take place numbers i d (omega arith) ∙ get_or_default numbers i d 0 (omega arith) in
-    let right : get_or (take place numbers) j d ≡ get_or numbers j 0 = get_or-take place numbers j d in_place ∙ get_or_default numbers j d 0 (omega arith) in
+    let left : get_or (take place numbers) i d ≡ get_or numbers i 0 =
+    get_or-take place numbers i d (omega arith) ∙ get_or_default numbers i d 0 (omega arith)
+    in
+    let right : get_or (take place numbers) j d ≡ get_or numbers j 0 =
+    get_or-take place numbers j d in_place ∙ get_or_default numbers j d 0 (omega arith)
+    in
     λ e. apart i j below in_place (sym left ∙ e ∙ right)
 
 -- numbers that rise differ
 pub none-repeats : (numbers : List ℕ) → IsStrictlyIncreasing numbers → IsFirstRepeat numbers (length numbers)
 none-repeats numbers rises = record {
   within = omega arith;
-  once = once-below numbers (length numbers) (omega arith) (λ a b below inside e. let less : get_or numbers a 0 < get_or numbers b 0 = AllPairs-from_increasing numbers rises a b 0 below inside in omega arith);
+  once =
+      once-below numbers (length numbers) (omega arith)
+      (λ a b below inside e. let less : get_or numbers a 0 < get_or numbers b 0 = AllPairs-from_increasing numbers rises a b 0 below inside in omega arith);
   repeats = λ past. absurd (omega arith);
 }
 
@@ -106,12 +118,18 @@ module _ (numbers keys sorted : List ℕ) (few : length numbers ≤ MOST_TRANSIT
 
   apart : AllPairs ◌≢◌ keys
   apart i j d below inside =
-      let left : get_or keys i d ≡ get_or numbers i 0 * places + i = get_or_default keys i d 0 (omega arith) ∙ are.each i (omega (arith, are.long)) in
-      let right : get_or keys j d ≡ get_or numbers j 0 * places + j = get_or_default keys j d 0 inside ∙ are.each j (omega (arith, are.long)) in
+      let left : get_or keys i d ≡ get_or numbers i 0 * places + i =
+      get_or_default keys i d 0 (omega arith) ∙ are.each i (omega (arith, are.long))
+      in
+      let right : get_or keys j d ≡ get_or numbers j 0 * places + j =
+      get_or_default keys j d 0 inside ∙ are.each j (omega (arith, are.long))
+      in
       λ e. omega (arith, left, right, e, are.long)
 
   rises : IsStrictlyIncreasing sorted
-  rises = IsStrictlyIncreasing-from_distinct sorted no_fall (IsDistinct-IsPermutation ◌==◌ turned keys sorted moved (IsDistinct-from_AllPairs Decides-eqb keys apart))
+  rises =
+      IsStrictlyIncreasing-from_distinct sorted no_fall
+      (IsDistinct-IsPermutation ◌==◌ turned keys sorted moved (IsDistinct-from_AllPairs Decides-eqb keys apart))
 
   -- the least mark is the first repeat
   pub first-repeats : (mark : ℕ) → IsLeastMark sorted mark → IsFirstRepeat numbers mark

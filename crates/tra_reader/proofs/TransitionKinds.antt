@@ -73,7 +73,9 @@ are_states n p = is_state n p.from && is_state n p.to
 
 states_decide : (n : ℕ) (p : StatePair) → Decides (are_states n p) (AreStates n p)
 states_decide n p =
-    Decides-like {P = IsState n p.from × IsState n p.to} (are_states n p) (λ h. record { from_state = h.0; to_state = h.1 }) (λ h. (h.from_state, h.to_state))
+    Decides-like {P =
+    IsState n p.from × IsState n p.to} (are_states n p) (λ h. record { from_state = h.0; to_state = h.1 }) (λ h.
+    (h.from_state, h.to_state))
     (Decides-and (is_state n p.from) (is_state n p.to) (state_decides n p.from) (state_decides n p.to))
 
 abbrev is_same_pair : StatePair → StatePair → Bool
@@ -81,7 +83,8 @@ is_same_pair p q = p.from == q.from && p.to == q.to
 
 same_decides : (p q : StatePair) → Decides (is_same_pair p q) (p ≡ q)
 same_decides p q =
-    Decides-like {P = (p.from ≡ q.from) × (p.to ≡ q.to)} (is_same_pair p q) (λ h. same_pair p q h.0 h.1) (λ e. (ap (λ z. z.from) e, ap (λ z. z.to) e))
+    Decides-like {P =
+    (p.from ≡ q.from) × (p.to ≡ q.to)} (is_same_pair p q) (λ h. same_pair p q h.0 h.1) (λ e. (ap (λ z. z.from) e, ap (λ z. z.to) e))
     (Decides-and (p.from == q.from) (p.to == q.to) (Decides-eqb p.from q.from) (Decides-eqb p.to q.to))
 
 -- it can be told what it is
@@ -96,7 +99,8 @@ transitions_decided n = record {
 }
 
 -- the two whole numbers are no states, where these are the numbers up to n
-pub no_states : (n a b : ℕ) (line : WordLine) (u v w : List ℕ) → line.words ≡ u ∷ v ∷ w ∷ [] → IsWhole u → IsWhole v → a ≡ min (whole_value u) (n + 1)
+pub no_states : (n a b : ℕ) (line : WordLine) (u v w : List ℕ) → line.words ≡ u ∷ v ∷ w ∷ [] → IsWhole u → IsWhole v
+    → a ≡ min (whole_value u) (n + 1)
     → b ≡ min (whole_value v) (n + 1) → ((1 ≤ a) × (a ≤ n) × (1 ≤ b) × (b ≤ n) → ⊥) → HasKeyOutOfRange (transition_lines n) line
 no_states n a b line u v w words from to a_is b_is outside = record {
   key = pair (whole_value u) (whole_value v);
@@ -111,5 +115,6 @@ no_states n a b line u v w words from to a_is b_is outside = record {
   outside = λ are.
       let from_state = are.from_state in
       let to_state = are.to_state in
-      outside (omega (arith, from_state.0, from_state.1), omega (arith, from_state.0, from_state.1), omega (arith, to_state.0, to_state.1), omega (arith, to_state.0, to_state.1));
+      outside
+      (omega (arith, from_state.0, from_state.1), omega (arith, from_state.0, from_state.1), omega (arith, to_state.0, to_state.1), omega (arith, to_state.0, to_state.1));
 }

@@ -7,7 +7,9 @@ use Rattle.decimal_text.proofs.digits.read_capped.Goals as goal
 pub returns-in_err-digit : goal.returns-in_err-digit
 returns-in_err-digit c =
     let not_digit = c.in_err-digit.ensures in
-    let none : (IsNumeral 10 c.args.text.now) → ⊥ = λ numeral. not_digit (digit_below c.args.text.now c.loop-byte.byte-index numeral.1 (omega arith)) in
+    let none : (IsNumeral 10 c.args.text.now) → ⊥ =
+    λ numeral. not_digit (digit_below c.args.text.now c.loop-byte.byte-index numeral.1 (omega arith))
+    in
     rw c.from_residual.ensures none
 
 pub loop-byte-preserved : goal.loop-byte-preserved

@@ -10,11 +10,13 @@ letter_of text rest (inl e) = (101, inl refl, e)
 letter_of text rest (inr e) = (69, inr refl, e)
 
 -- what follows the letter has no sign and digits
-no_exponent : (text rest : List ℕ) (letter : ℕ) → text ≡ letter ∷ rest → ¬ IsSignedDigits rest → (e : Option ExponentSpelling) → IsExponent e → text ≡ exponent_text e → ⊥
+no_exponent : (text rest : List ℕ) (letter : ℕ) → text ≡ letter ∷ rest → ¬ IsSignedDigits rest → (e : Option ExponentSpelling)
+    → IsExponent e → text ≡ exponent_text e → ⊥
 no_exponent text rest letter t none None w s = cc
 no_exponent text rest letter t none (Some e) w s = none (e.sign, e.digits, w.digits, cc)
 
-after : (text rest : List ℕ) (letter : ℕ) (r : Option Exponent) → (letter ≡ 101) ⊎ (letter ≡ 69) → text ≡ letter ∷ rest → MatchOption r (¬ IsSignedDigits rest) (IsSignedDigitsOf rest) → MatchOption r (¬ IsExponentText text) (IsExponentOf text)
+after : (text rest : List ℕ) (letter : ℕ) (r : Option Exponent) → (letter ≡ 101) ⊎ (letter ≡ 69) → text ≡ letter ∷ rest
+    → MatchOption r (¬ IsSignedDigits rest) (IsSignedDigitsOf rest) → MatchOption r (¬ IsExponentText text) (IsExponentOf text)
 after text rest letter None l t none = λ e. no_exponent text rest letter t none e.0 e.1 e.2
 after text rest letter (Some r) l t found = record {
   spelling = Some (record { letter = letter; sign = found.sign; digits = found.digits });

@@ -14,7 +14,8 @@ record SameGap (up down u d : ℕ) : Type 0 where
   more : down ≤ up → up - down < 18 → u ≡ up - down + d
   much : down ≤ up → 18 ≤ up - down → 18 + d ≤ u
 
-same_gap : (z f u d up down : ℕ) (e : Exponent) → z < 2 ^ 63 → f < 2 ^ 63 → IsScale e u d → AreTens z f e up down → SameGap up down (z + u) (f + d)
+same_gap : (z f u d up down : ℕ) (e : Exponent) → z < 2 ^ 63 → f < 2 ^ 63 → IsScale e u d → AreTens z f e up down
+    → SameGap up down (z + u) (f + d)
 same_gap z f u d up down (Up n) few short s t = record {
   less = λ a b. omega arith;
   fine = λ a b. omega arith;
@@ -97,7 +98,10 @@ returns-then-up-down c m u d h s =
     let x : ℕ = c.tens-up.result.1 - c.tens-up.result.0 in
     let less : z + u + x ≡ c.args.decimals + d = gap.less (omega arith) (omega arith) in
     let some = some_digits c.args.significand.digits h.digits h.known (omega arith) in
-    let form_of_digits = subst (λ g. IsNormalFormOf m u (c.args.decimals + d) (form g x)) (few_digits c.args.significand.digits h.digits h.known (omega arith)) (fraction m h.digits z u x (c.args.decimals + d) h.number (h.last some) less) in
+    let form_of_digits =
+    subst (λ g. IsNormalFormOf m u (c.args.decimals + d) (form g x)) (few_digits c.args.significand.digits h.digits h.known (omega arith))
+    (fraction m h.digits z u x (c.args.decimals + d) h.number (h.last some) less)
+    in
     (record { below = omega arith; decimals = omega arith; normal = form_of_digits.normal }, form_of_digits)
 
 -- the digits that are shifted, as far as they are known
@@ -107,7 +111,8 @@ shifted_known g h k c a b = b ∙ known_times g h (10 ^ k) a (ten_pos k)
 few_or_many : (k : ℕ) → (k < 18) ⊎ (18 ≤ k)
 few_or_many k = Prim.grind arith
 
-too_big : (m h z u d k c : ℕ) → (18 ≤ k → 18 + d ≤ z + u) → (k < 18 → z + u ≡ k + d) → m ≡ h * 10 ^ z → 0 < h → c ≡ up_to_limit (h * 10 ^ k) → 10 ^ 18 ≤ c → (e : DecimalNumber) × IsNormalFormOf m u d e × (e.x ≤ 18) × (10 ^ 18 ≤ e.c)
+too_big : (m h z u d k c : ℕ) → (18 ≤ k → 18 + d ≤ z + u) → (k < 18 → z + u ≡ k + d) → m ≡ h * 10 ^ z → 0 < h
+    → c ≡ up_to_limit (h * 10 ^ k) → 10 ^ 18 ≤ c → (e : DecimalNumber) × IsNormalFormOf m u d e × (e.x ≤ 18) × (10 ^ 18 ≤ e.c)
 too_big m h z u d k c much more e some known big =
     elim (few_or_many k) [
       | inl few ↦ (form (h * 10 ^ k) 0, whole m h z u k d e (more few), omega arith, many_digits c _ known big)
@@ -118,7 +123,8 @@ too_big m h z u d k c much more e some known big =
           (form (h * 10 ^ p) 0, whole m h z u p d e split, omega arith, big_shift h p some far)
     ]
 
-in_range : (m h z u d k c : ℕ) → (k < 18 → z + u ≡ k + d) → m ≡ h * 10 ^ z → 0 < h → c ≡ up_to_limit (h * 10 ^ k) → c < 10 ^ 18 → IsNormalFormOf m u d (form c 0)
+in_range : (m h z u d k c : ℕ) → (k < 18 → z + u ≡ k + d) → m ≡ h * 10 ^ z → 0 < h → c ≡ up_to_limit (h * 10 ^ k) → c < 10 ^ 18
+    → IsNormalFormOf m u d (form c 0)
 in_range m h z u d k c more e some known small =
     elim (few_or_many k) [
       | inl few ↦ subst (λ g. IsNormalFormOf m u d (form g 0)) (few_digits c _ known small) (whole m h z u k d e (more few))
@@ -132,7 +138,8 @@ returns-then-c-ge-LIMIT c m u d h s =
     let k : ℕ = c.tens-up.result.0 - c.tens-up.result.1 in
     let known = shifted_known c.args.significand.digits h.digits k c.shifted-c.result h.known c.shifted-c.ensures in
     let some = some_digits c.args.significand.digits h.digits h.known (omega arith) in
-    too_big m h.digits z u (c.args.decimals + d) k c.shifted-c.result (gap.much (omega arith)) (gap.more (omega arith)) h.number some known (omega arith)
+    too_big m h.digits z u (c.args.decimals + d) k c.shifted-c.result (gap.much (omega arith)) (gap.more (omega arith)) h.number some known
+    (omega arith)
 
 pub returns : goal.returns
 returns c m u d h s =

@@ -19,7 +19,8 @@ no_number word rest s f m none = λ n.
     let digit = exponent_after_digits t.exponent parts.exponent in
     let point = exponent_after_point t.exponent parts.exponent in
     let same =
-    mantissa_unique m.spelling t.mantissa rest (exponent_text t.exponent) m.mantissa parts.mantissa m.digit m.point digit point (sym m.spelled ∙ n.1.text)
+    mantissa_unique m.spelling t.mantissa rest (exponent_text t.exponent) m.mantissa parts.mantissa m.digit m.point digit point
+    (sym m.spelled ∙ n.1.text)
     in
     none (t.exponent, parts.exponent, same.1)
 
@@ -44,7 +45,8 @@ not_both_fine word d e a b more less = omega (arith, more, less, ap (λ n. n.x) 
 not_both_big : (word : List ℕ) (d e : DecimalNumber) → StandsFor word d → StandsFor word e → 10 ^ 18 ≤ d.c → e.c < 10 ^ 18 → ⊥
 not_both_big word d e a b more less = omega (arith, more, less, ap (λ n. n.c) (one_value word d e a b))
 
-number_is : (word : List ℕ) (r : Result DecimalNumber NumberFault) → Answered word r → (d : DecimalNumber) → StandsFor word d → IsShortDecimal d → r ≡ Ok d
+number_is : (word : List ℕ) (r : Result DecimalNumber NumberFault) → Answered word r → (d : DecimalNumber) → StandsFor word d
+    → IsShortDecimal d → r ≡ Ok d
 number_is word (Ok e) a d s short = ap Ok (one_value word e d (value_of word (Ok e) a) s)
 number_is word (Err TooFine) a d s short =
     absurd (not_both_fine word a.answer.0 d (stands word a.spelling a.spelled a.answer.0 a.answer.1) s a.answer.2 short.decimals)
@@ -52,14 +54,18 @@ number_is word (Err TooBig) a d s short =
     absurd (not_both_big word a.answer.0 d (stands word a.spelling a.spelled a.answer.0 a.answer.1) s a.answer.3 short.below)
 number_is word (Err NotNumber) a d s short = absurd a.answer
 
-answered : (word rest : List ℕ) (s : Significand) (f : ℕ) (e : Exponent) (r : Result DecimalNumber NumberFault) → BeginsWithMantissa word rest s f → IsExponentOf rest e → ((m up down : ℕ) → IsSignificand s m → IsScale e up down → IsAnswerFor m up (f + down) r) → Answered word r
+answered : (word rest : List ℕ) (s : Significand) (f : ℕ) (e : Exponent) (r : Result DecimalNumber NumberFault)
+    → BeginsWithMantissa word rest s f → IsExponentOf rest e
+    → ((m up down : ℕ) → IsSignificand s m → IsScale e up down → IsAnswerFor m up (f + down) r) → Answered word r
 answered word rest s f e r m x h = record {
   spelling = record { mantissa = m.spelling; exponent = x.spelling };
   spelled = record {
     text = m.spelled ∙ ap (λ t. mantissa_text m.spelling ++ t) x.spelled;
     parts = record { mantissa = m.mantissa; exponent = x.written };
   };
-  answer = subst (λ k. IsAnswerFor (mantissa_number m.spelling) (tens_up x.spelling) (k + tens_down x.spelling) r) (sym m.count) (h _ _ _ m.number x.scale);
+  answer =
+      subst (λ k. IsAnswerFor (mantissa_number m.spelling) (tens_up x.spelling) (k + tens_down x.spelling) r) (sym m.count)
+      (h _ _ _ m.number x.scale);
 }
 
 is_no_number : (word : List ℕ) (r : Result DecimalNumber NumberFault) → Answered word r → (r ≡ Err NotNumber) ↔ (¬ IsNumber word)
@@ -80,8 +86,7 @@ is_too_fine word (Err TooBig) a =
 is_too_fine word (Err NotNumber) a = absurd a.answer
 
 is_too_big : (word : List ℕ) (r : Result DecimalNumber NumberFault) → Answered word r → (r ≡ Err TooBig) ↔ IsTooBig word
-is_too_big word (Ok d) a =
-    (λ e. cc, λ t. absurd (not_both_big word t.number d t.stands (value_of word (Ok d) a) t.big a.answer.0.below))
+is_too_big word (Ok d) a = (λ e. cc, λ t. absurd (not_both_big word t.number d t.stands (value_of word (Ok d) a) t.big a.answer.0.below))
 is_too_big word (Err TooFine) a =
     let d = a.answer.0 in
     (λ e. cc, λ t. absurd (not_both_fine word d t.number (stands word a.spelling a.spelled d a.answer.1) t.stands a.answer.2 t.decimals))
@@ -93,25 +98,37 @@ is_too_big word (Err TooBig) a =
 is_too_big word (Err NotNumber) a = absurd a.answer
 
 pub returns-clause-value : goal.returns-clause-value
-returns-clause-value c = value_of _ _ (answered c.args.word.now _ _ _ _ c.normal_form.result c.in-Some.ensures.mantissa c.in-Some-read_exponent.ensures c.normal_form.ensures)
+returns-clause-value c =
+    value_of _ _
+    (answered c.args.word.now _ _ _ _ c.normal_form.result c.in-Some.ensures.mantissa c.in-Some-read_exponent.ensures c.normal_form.ensures)
 
 pub returns-clause-number : goal.returns-clause-number
-returns-clause-number c = number_is _ _ (answered c.args.word.now _ _ _ _ c.normal_form.result c.in-Some.ensures.mantissa c.in-Some-read_exponent.ensures c.normal_form.ensures)
+returns-clause-number c =
+    number_is _ _
+    (answered c.args.word.now _ _ _ _ c.normal_form.result c.in-Some.ensures.mantissa c.in-Some-read_exponent.ensures c.normal_form.ensures)
 
 pub returns-clause-not_number : goal.returns-clause-not_number
-returns-clause-not_number c = is_no_number _ _ (answered c.args.word.now _ _ _ _ c.normal_form.result c.in-Some.ensures.mantissa c.in-Some-read_exponent.ensures c.normal_form.ensures)
+returns-clause-not_number c =
+    is_no_number _ _
+    (answered c.args.word.now _ _ _ _ c.normal_form.result c.in-Some.ensures.mantissa c.in-Some-read_exponent.ensures c.normal_form.ensures)
 
 pub returns-clause-too_fine : goal.returns-clause-too_fine
-returns-clause-too_fine c = is_too_fine _ _ (answered c.args.word.now _ _ _ _ c.normal_form.result c.in-Some.ensures.mantissa c.in-Some-read_exponent.ensures c.normal_form.ensures)
+returns-clause-too_fine c =
+    is_too_fine _ _
+    (answered c.args.word.now _ _ _ _ c.normal_form.result c.in-Some.ensures.mantissa c.in-Some-read_exponent.ensures c.normal_form.ensures)
 
 pub returns-clause-too_big : goal.returns-clause-too_big
-returns-clause-too_big c = is_too_big _ _ (answered c.args.word.now _ _ _ _ c.normal_form.result c.in-Some.ensures.mantissa c.in-Some-read_exponent.ensures c.normal_form.ensures)
+returns-clause-too_big c =
+    is_too_big _ _
+    (answered c.args.word.now _ _ _ _ c.normal_form.result c.in-Some.ensures.mantissa c.in-Some-read_exponent.ensures c.normal_form.ensures)
 
 pub returns-in_default-read_exponent-clause-not_number : goal.returns-in_default-read_exponent-clause-not_number
-returns-in_default-read_exponent-clause-not_number c = (λ _. no_number _ _ _ _ c.in-Some.ensures.mantissa c.in_default-read_exponent.ensures, λ _. refl)
+returns-in_default-read_exponent-clause-not_number c =
+    (λ _. no_number _ _ _ _ c.in-Some.ensures.mantissa c.in_default-read_exponent.ensures, λ _. refl)
 
 pub returns-in_default-read_exponent-clause-number : goal.returns-in_default-read_exponent-clause-number
-returns-in_default-read_exponent-clause-number c d s short = absurd (no_number _ _ _ _ c.in-Some.ensures.mantissa c.in_default-read_exponent.ensures (s.spelling, s.spelled))
+returns-in_default-read_exponent-clause-number c d s short =
+    absurd (no_number _ _ _ _ c.in-Some.ensures.mantissa c.in_default-read_exponent.ensures (s.spelling, s.spelled))
 
 pub returns-in_default-read_exponent-clause-too_fine : goal.returns-in_default-read_exponent-clause-too_fine
 returns-in_default-read_exponent-clause-too_fine c =

@@ -4,7 +4,8 @@ use Rattle.decimal_text.proofs.FixedDigits.{one_digit_back}
 use Rattle.decimal_text.proofs.text.last_digits.Goals as goal
 
 -- once all digits are written, nothing stands before them
-all_written : (text digits : List ℕ) (rest written count : ℕ) → written ≡ count → fixed_digits (count - written) rest ++ drop (18 - written) text ≡ digits → drop (18 - count) text ≡ digits
+all_written : (text digits : List ℕ) (rest written count : ℕ) → written ≡ count
+    → fixed_digits (count - written) rest ++ drop (18 - written) text ≡ digits → drop (18 - count) text ≡ digits
 all_written text digits rest written count e d =
     let none : count - written ≡ 0 = omega arith in
     let only : drop (18 - written) text ≡ digits = subst (λ k. fixed_digits k rest ++ drop (18 - written) text ≡ digits) none d in
@@ -16,10 +17,12 @@ loop-written-preserved c =
     record {
       size = search rules;
       decimals =
-          one_digit_back (c.args.count - (i + 1)) (c.args.count - i) (18 - 1 - i) (18 - (i + 1)) (18 - i) c.loop-written.rest c.loop-written.digits (omega arith) (omega arith) (omega arith) (omega arith)
+          one_digit_back (c.args.count - (i + 1)) (c.args.count - i) (18 - 1 - i) (18 - (i + 1))
+          (18 - i) c.loop-written.rest c.loop-written.digits (omega arith) (omega arith) (omega arith) (omega arith)
           ∙ c.loop-written.invariant.decimals;
     }
 
 pub returns : goal.returns
 returns c =
-    all_written c.loop-written.digits (fixed_digits c.args.count c.args.value) c.loop-written.rest c.loop-written.written c.args.count (omega arith) c.loop-written.invariant.decimals
+    all_written c.loop-written.digits (fixed_digits c.args.count c.args.value) c.loop-written.rest c.loop-written.written c.args.count
+    (omega arith) c.loop-written.invariant.decimals

@@ -21,5 +21,8 @@ loop-line-preserved c =
     let place = c.in-Ok.marked.state - 1 in
     let g : GivesMask c.args.n names line c.in-Ok.marked.state c.in-Ok.marked.mask = c.in-Ok.ensures in
     let inside : place < length marks = omega (arith, g.is.is_state.0, g.is.is_state.1, c.loop-line.invariant.are.each) in
-    let old : c.index_mut.result.now ≡ get_or marks place 0 = c.index_mut.ensures.value ∙ get_or_default marks place c.index_mut.result.now 0 inside in
-    rw old (marked_more c.args.n names body marks line left c.in-Ok.marked.state c.in-Ok.marked.mask (subst (HasMarked c.args.n names body marks) c.in-Some.ensures c.loop-line.invariant) g)
+    let old : c.index_mut.result.now ≡ get_or marks place 0 =
+    c.index_mut.ensures.value ∙ get_or_default marks place c.index_mut.result.now 0 inside
+    in
+    rw old
+    (marked_more c.args.n names body marks line left c.in-Ok.marked.state c.in-Ok.marked.mask (subst (HasMarked c.args.n names body marks) c.in-Some.ensures c.loop-line.invariant) g)

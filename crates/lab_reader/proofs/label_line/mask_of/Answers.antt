@@ -8,27 +8,20 @@ loop-label-init c = rw c.into_iter-label-iterator.ensures.into_iter_gives (maske
 
 pub loop-label-preserved : goal.loop-label-preserved
 loop-label-preserved c =
-    let names = c.args.names.now in
-    let all = bytes_of c.args.labels in
-    let label = c.in-Some.label.bytes.now in
-    let left = bytes_of c.next.new.self in
-    let mask = c.loop-label.mask in
-    let h : HasMasked names all mask (label ∷ left) = subst (HasMasked names all mask) (ap bytes_of c.in-Some.ensures.steps) c.loop-label.invariant in
-    masked_more names all left label mask c.in_ok-place.place c.requires h c.in_ok-place.ensures.0 c.in_ok-place.ensures.1
+    masked_more c.args.names.now (bytes_of c.args.labels)
+    (bytes_of c.next.new.self) c.in-Some.label.bytes.now c.loop-label.mask c.in_ok-place.place c.requires
+    (subst (HasMasked c.args.names.now (bytes_of c.args.labels) c.loop-label.mask) (ap bytes_of c.in-Some.ensures.steps) c.loop-label.invariant)
+    c.in_ok-place.ensures.0 c.in_ok-place.ensures.1
 
 pub returns : goal.returns
 returns c =
-    let names = c.args.names.now in
-    let all = bytes_of c.args.labels in
-    let mask = c.loop-label.mask in
-    masked_all names all mask (subst (HasMasked names all mask) (ap bytes_of c.in-None.ensures.steps.0) c.loop-label.invariant)
+    let Masked = HasMasked c.args.names.now (bytes_of c.args.labels) c.loop-label.mask in
+    masked_all c.args.names.now (bytes_of c.args.labels) c.loop-label.mask
+    (subst Masked (ap bytes_of c.in-None.ensures.steps.0) c.loop-label.invariant)
 
 pub returns-in_err-place : goal.returns-in_err-place
 returns-in_err-place c =
-    let names = c.args.names.now in
-    let all = bytes_of c.args.labels in
-    let label = c.in-Some.label.bytes.now in
-    let left = bytes_of c.next.new.self in
-    let mask = c.loop-label.mask in
-    let h : HasMasked names all mask (label ∷ left) = subst (HasMasked names all mask) (ap bytes_of c.in-Some.ensures.steps) c.loop-label.invariant in
-    rw c.from_residual.ensures (masked_fails names all left label mask h c.in_err-place.ensures)
+    let Masked = HasMasked c.args.names.now (bytes_of c.args.labels) c.loop-label.mask in
+    rw c.from_residual.ensures
+    (masked_fails c.args.names.now (bytes_of c.args.labels) (bytes_of c.next.new.self) c.in-Some.label.bytes.now c.loop-label.mask
+    (subst Masked (ap bytes_of c.in-Some.ensures.steps) c.loop-label.invariant) c.in_err-place.ensures)

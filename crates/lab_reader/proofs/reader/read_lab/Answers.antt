@@ -12,10 +12,12 @@ pub returns-clause-says : goal.returns-clause-says
 returns-clause-says c =
     let text = c.args.bytes.now in
     let n = c.args.n in
-    says_exactly (LabSays text n) (LabFaultAt text n) (lab_reading text n) c.read_lines.result c.read_lines.ensures.value (returns-clause-fault c)
+    says_exactly (LabSays text n) (LabFaultAt text n) (lab_reading text n) c.read_lines.result c.read_lines.ensures.value
+    (returns-clause-fault c)
 
 pub returns-clause-faulty : goal.returns-clause-faulty
 returns-clause-faulty c =
     let text = c.args.bytes.now in
     let n = c.args.n in
-    faulty_exactly (LabSays text n) (LabFaultAt text n) (lab_reading text n) c.read_lines.result c.read_lines.ensures.value (returns-clause-fault c)
+    faulty_exactly (LabSays text n) (LabFaultAt text n) (lab_reading text n) c.read_lines.result c.read_lines.ensures.value
+    (returns-clause-fault c)

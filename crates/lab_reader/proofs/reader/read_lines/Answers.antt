@@ -8,23 +8,18 @@ use Rattle.lab_reader.specs.Declarations.{Declares}
 use Rattle.lab_reader.specs.LabFault.{LabFaultAt, BodyFails}
 use Rattle.lab_reader.specs.LabText.{LabSays}
 use Rattle.lab_reader.proofs.Bodies.{body_said, body_faulty}
+use Rattle.lab_reader.proofs.Heads.{of_declarations}
 use Rattle.lab_reader.proofs.reader.read_lines.Goals as goal
 
 pub returns-in_err-take_opening-clause-fault : goal.returns-in_err-take_opening-clause-fault
 returns-in_err-take_opening-clause-fault c =
-    let text = c.args.bytes.now in
-    let n = c.args.n in
     let p = err_from_is_err_and c.from_residual.result c.from_residual.ensures.1 in
-    rw (p.1, p.2)
-    (told_weaker (λ number w. (k : ℕ) → LabFaultAt text k number w) (LabFaultAt text n) (λ number w f. f n) c.in_err-take_opening.field-0.0 c.in_err-take_opening.ensures)
+    rw (p.1, p.2) (of_declarations c.args.bytes.now c.args.n c.in_err-take_opening.field-0.0 c.in_err-take_opening.ensures)
 
 pub returns-in_err-names-clause-fault : goal.returns-in_err-names-clause-fault
 returns-in_err-names-clause-fault c =
-    let text = c.args.bytes.now in
-    let n = c.args.n in
     let p = err_from_is_err_and c.from_residual-in_err-names.result c.from_residual-in_err-names.ensures.1 in
-    rw (p.1, p.2)
-    (told_weaker (λ number w. (k : ℕ) → LabFaultAt text k number w) (LabFaultAt text n) (λ number w f. f n) c.in_err-names.field-0.0 c.in_err-names.ensures)
+    rw (p.1, p.2) (of_declarations c.args.bytes.now c.args.n c.in_err-names.field-0.0 c.in_err-names.ensures)
 
 pub returns-in_err-marks-clause-fault : goal.returns-in_err-marks-clause-fault
 returns-in_err-marks-clause-fault c =

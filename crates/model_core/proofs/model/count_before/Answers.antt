@@ -7,5 +7,8 @@ use Rattle.model_core.proofs.model.count_before.Goals as goal
 pub returns : goal.returns
 returns c =
     let parted = IsPartitionedBy-ltb (λ (r : Rate). r.from) _ c.args.s c.requires in
-    let point = IsPartitionPoint-from_clause (λ (r : Rate). ltb r.from c.args.s) _ _ c.partition_point.ensures.partitioned parted (λ a r q k. search rules) in
+    let point =
+    IsPartitionPoint-from_clause (λ (r : Rate). ltb r.from c.args.s) _ _ c.partition_point.ensures.partitioned parted
+    (λ a r q k. search rules)
+    in
     sym (count_by-partition_point (λ (r : Rate). ltb r.from c.args.s) _ _ c.partition_point.ensures.bound point)

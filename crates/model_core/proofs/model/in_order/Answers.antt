@@ -5,4 +5,6 @@ use Rattle.model_core.specs.Pairs.{pair_number}
 use Rattle.model_core.proofs.model.in_order.Goals as goal
 
 pub returns-clause-ascending : goal.returns-clause-ascending
-returns-clause-ascending c = IsNonDecreasingBy-from_sort_by_key (λ (r : Rate). pair_number r.from r.to) _ c.sort_unstable_by_key.ensures.sorted (λ a r q k. search rules)
+returns-clause-ascending c =
+    IsNonDecreasingBy-from_sort_by_key (λ (r : Rate). pair_number r.from r.to) _ c.sort_unstable_by_key.ensures.sorted
+    (λ a r q k. search rules)

@@ -44,7 +44,9 @@ returns-then-index-clause-fault c =
     let e = c.in-Ok.entry in
     let known = c.loop-line.invariant in
     let row = row_of_line c.in-Some.line in
-    let within : c.in-Ok.entry.key < length c.loop-line.has_entry.items = omega (arith, c.in-Ok.ensures.entry.is.key.in_range.1, c.loop-line.invariant.marks.long) in
+    let within : c.in-Ok.entry.key < length c.loop-line.has_entry.items =
+    omega (arith, c.in-Ok.ensures.entry.is.key.in_range.1, c.loop-line.invariant.marks.long)
+    in
     let marked = get_or_default marks e.key false c.index.result.now within ∙ sym c.index.ensures ∙ c.if-index.true in
     let repeats : RepeatsKey (reward_lines n) (entries_of state_number entries) row =
     record { entry = entry_of state_number e; is = c.in-Ok.ensures.entry.is; earlier = known.marks.marked e.key marked } in
@@ -81,5 +83,6 @@ loop-line-preserved c =
 pub returns-clause-read : goal.returns-clause-read
 returns-clause-read c =
     let known = c.loop-line.invariant in
-    read_all (reward_lines c.args.n) state_number (word_lines_of c.args.bytes.now) (word_lines_in c.loop-line.rest) c.loop-line.entries.items
+    read_all (reward_lines c.args.n) state_number (word_lines_of c.args.bytes.now)
+    (word_lines_in c.loop-line.rest) c.loop-line.entries.items
     known.read c.in_default.ensures.0 known.once

@@ -11,5 +11,7 @@ returns-in-Err-clause-fault c = λ entries.
       key = state_number c.in_ok-word.word.state;
       word = word;
       has = c.in_ok-word.ensures.state;
-      is = number_fault word c.in-Err.fault (λ e. found.not_number.0 (ap Err e)) (λ e. found.too_fine.0 (ap Err e)) (λ e. found.too_big.0 (ap Err e));
+      is =
+          number_fault word c.in-Err.fault (λ e. found.not_number.0 (ap Err e)) (λ e. found.too_fine.0 (ap Err e))
+          (λ e. found.too_big.0 (ap Err e));
     }

@@ -3,7 +3,8 @@ use Rattle.text_lines.specs.WholeNumber.{whole_value}
 use Rattle.rew_reader.proofs.RewardKinds.{no_state}
 use Rattle.text_lines.specs.Items.{row_of_line}
 use Rattle.rew_reader.proofs.entry.read_state.Goals as goal
-use Rattle.rew_reader.proofs.entry.read_state.Goals.{then-number-eq0-via-then-number-eq0, then-number-eq0-via-else-number-eq0+then-number-most}
+use Rattle.rew_reader.proofs.entry.read_state.Goals.{then-number-eq0-via-then-number-eq0}
+use Rattle.rew_reader.proofs.entry.read_state.Goals.{then-number-eq0-via-else-number-eq0+then-number-most}
 
 pub returns-then-number-eq0-clause-fault : goal.returns-then-number-eq0-clause-fault
 returns-then-number-eq0-clause-fault c = λ entries.

@@ -1,5 +1,5 @@
 use Rattle.std.proofs.Common.{ℕ, length, map, ap, subst, ◌∙◌}
-use Rattle.std.specs.List.{All, range_with_len}
+use Rattle.std.specs.List.{range_with_len}
 use Rattle.std.proofs.lemmas.List.{length-map}
 use Rattle.std.proofs.lemmas.List.FromFn.{length-range_with_len}
 use Rattle.decimal_text.specs.Scale.{greatest_decimals}
@@ -8,10 +8,10 @@ use Rattle.text_lines.proofs.EntryReads.{small_scale, within_scale_of}
 use Rattle.text_lines.specs.EntryLines.{value_of, entries_of}
 use Rattle.text_lines.specs.WordLines.{word_lines_of}
 use Rattle.text_lines.specs.declared.entry_line.EntryLine.{EntryLine}
-use Rattle.rew_reader.specs.Reading.{IsInRange, IsFirstLarge}
+use Rattle.rew_reader.specs.Reading.{IsFirstLarge}
 use Rattle.rew_reader.specs.RewardLines.{reward_lines}
 use Rattle.rew_reader.specs.RewText.{reward_of}
-use Rattle.rew_reader.proofs.FileLemmas.{states_below, is_rew, says_rew, line_large}
+use Rattle.rew_reader.proofs.FileLemmas.{states_below, made, is_rew, says_rew, line_large}
 use Rattle.rew_reader.proofs.rew.read_lines.Goals as goal
 
 pub first_large-requires-clause-decimals : goal.first_large-requires-clause-decimals
@@ -34,7 +34,8 @@ returns-in-Some-clause-fault c =
 
 pub rewards_of-requires-clause-states : goal.rewards_of-requires-clause-states
 rewards_of-requires-clause-states c =
-    rw c.deref-3.ensures.value (states_below c.args.n (word_lines_of c.args.bytes.now) c.in_ok-entries.entries.items c.in_ok-entries.ensures.read)
+    rw c.deref-3.ensures.value
+    (states_below c.args.n (word_lines_of c.args.bytes.now) c.in_ok-entries.entries.items c.in_ok-entries.ensures.read)
 
 pub rewards_of-requires-clause-decimals : goal.rewards_of-requires-clause-decimals
 rewards_of-requires-clause-decimals c =
@@ -47,31 +48,18 @@ rewards_of-requires-clause-scale c =
 
 pub new-requires : goal.new-requires
 new-requires c =
-    let n = c.args.n in
-    let lines = word_lines_of c.args.bytes.now in
-    let es = c.in_ok-entries.entries.items in
-    let scale = c.scale_of-scale.result in
-    let rewards = c.in_ok-rewards.rewards.items in
-    is_rew n scale lines es rewards (record {
-      read = c.in_ok-entries.ensures.read;
-      scale_is = c.scale_of-scale.ensures ∙ ap (λ z. greatest_decimals (map value_of z)) c.deref.ensures.value;
-      within = subst (All (IsInRange scale)) c.deref-2.ensures.value c.in_default.ensures;
-      are = c.in_ok-rewards.ensures ∙ ap (λ z. map (reward_of scale (entries_of state_number z)) (range_with_len 0 n)) c.deref-3.ensures.value;
-    })
+    is_rew c.args.n c.scale_of-scale.result (word_lines_of c.args.bytes.now) c.in_ok-entries.entries.items c.in_ok-rewards.rewards.items
+    (made c.args.n c.scale_of-scale.result (word_lines_of c.args.bytes.now) c.in_ok-entries.entries.items c.deref.result.now c.deref-2.result.now c.deref-3.result.now
+    c.in_ok-rewards.rewards.items c.in_ok-entries.ensures.read c.deref.ensures.value c.deref-2.ensures.value c.deref-3.ensures.value
+    c.scale_of-scale.ensures c.in_default.ensures c.in_ok-rewards.ensures)
 
 pub returns-clause-value : goal.returns-clause-value
 returns-clause-value c =
-    let n = c.args.n in
-    let lines = word_lines_of c.args.bytes.now in
-    let es = c.in_ok-entries.entries.items in
-    let scale = c.scale_of-scale.result in
-    let rewards = c.in_ok-rewards.rewards.items in
-    rw c.new.ensures (says_rew n scale lines es rewards (record {
-      read = c.in_ok-entries.ensures.read;
-      scale_is = c.scale_of-scale.ensures ∙ ap (λ z. greatest_decimals (map value_of z)) c.deref.ensures.value;
-      within = subst (All (IsInRange scale)) c.deref-2.ensures.value c.in_default.ensures;
-      are = c.in_ok-rewards.ensures ∙ ap (λ z. map (reward_of scale (entries_of state_number z)) (range_with_len 0 n)) c.deref-3.ensures.value;
-    }))
+    rw c.new.ensures
+    (says_rew c.args.n c.scale_of-scale.result (word_lines_of c.args.bytes.now) c.in_ok-entries.entries.items c.in_ok-rewards.rewards.items
+    (made c.args.n c.scale_of-scale.result (word_lines_of c.args.bytes.now) c.in_ok-entries.entries.items c.deref.result.now c.deref-2.result.now c.deref-3.result.now
+    c.in_ok-rewards.rewards.items c.in_ok-entries.ensures.read c.deref.ensures.value c.deref-2.ensures.value c.deref-3.ensures.value
+    c.scale_of-scale.ensures c.in_default.ensures c.in_ok-rewards.ensures))
 
 pub returns-clause-states : goal.returns-clause-states
 returns-clause-states c =

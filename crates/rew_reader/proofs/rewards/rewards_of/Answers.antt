@@ -4,7 +4,8 @@ use Rattle.rew_reader.proofs.RewardSums.{rewards-none, rewards-more, rewards-all
 use Rattle.rew_reader.proofs.rewards.rewards_of.Goals as goal
 
 pub loop-entry-init : goal.loop-entry-init
-loop-entry-init c = rewards-none c.args.scale c.args.n c.in_ok-rewards.rewards.items (c.in_ok-rewards.ensures.items_if_clones_equal (λ y e. e))
+loop-entry-init c =
+    rewards-none c.args.scale c.args.n c.in_ok-rewards.rewards.items (c.in_ok-rewards.ensures.items_if_clones_equal (λ y e. e))
 
 pub index_mut-requires : goal.index_mut-requires
 index_mut-requires c =
@@ -20,4 +21,6 @@ loop-entry-preserved c =
     (c.requires.states i no_entry within) c.requires.once c.value_at.ensures.value c.loop-entry.invariant
 
 pub returns : goal.returns
-returns c = rewards-all c.args.scale c.args.n c.loop-entry.entry-index c.args.entries.now c.loop-entry.rewards.items (omega arith) c.loop-entry.invariant
+returns c =
+    rewards-all c.args.scale c.args.n c.loop-entry.entry-index c.args.entries.now c.loop-entry.rewards.items
+    (omega arith) c.loop-entry.invariant

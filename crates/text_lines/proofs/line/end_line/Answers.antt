@@ -10,5 +10,7 @@ count-requires-clause-fits c =
 pub overflow_add-result : goal.overflow_add-result
 overflow_add-result c =
     let fits = c.well_formed in
-    let few : c.count.result ≤ length c.args.bytes.now = omega (arith, c.count.ensures.bound, length-lines_of c.args.bytes.now, ap length c.lines.ensures.computed) in
+    let few : c.count.result ≤ length c.args.bytes.now =
+    omega (arith, c.count.ensures.bound, length-lines_of c.args.bytes.now, ap length c.lines.ensures.computed)
+    in
     omega arith

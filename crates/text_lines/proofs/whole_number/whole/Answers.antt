@@ -1,4 +1,5 @@
-use Rattle.std.proofs.Common.{◌≡◌, ℕ, zero, suc, ◌+◌, ◌*◌, ◌-◌, ◌^◌, ◌<◌, min, List, [], ◌∷◌, length, get_or, take, sym, subst, ap, ◌∙◌, arith}
+use Rattle.std.proofs.Common.{◌≡◌, ℕ, zero, suc, ◌+◌, ◌*◌, ◌-◌, ◌^◌, ◌<◌, min, List, [], ◌∷◌, length, get_or, take, sym, subst, ap, ◌∙◌}
+use Rattle.std.proofs.Common.{arith}
 use Rattle.std.proofs.lemmas.Int.Digits.{digits_more, digits_value_more}
 use Rattle.std.specs.Char.{digit_value}
 use Rattle.std.specs.Str.Parse.{AllDigits, digits_value}
@@ -12,14 +13,17 @@ digit_at (c ∷ cs) zero h l = h.0
 digit_at (c ∷ cs) (suc i) h l = digit_at cs i h.1 (omega arith)
 
 -- a digit more of a number that is known up to a limit
-known_more : (limit number value digit times plus : ℕ) → limit < 2 ^ 63 → digit < 10 → number ≡ min value (limit + 1) → times ≡ min (number * 10) (2 ^ 64 - 1) → plus ≡ min (times + digit) (2 ^ 64 - 1) → min plus (limit + 1) ≡ min (value * 10 + digit) (limit + 1)
+known_more : (limit number value digit times plus : ℕ) → limit < 2 ^ 63 → digit < 10 → number ≡ min value (limit + 1)
+    → times ≡ min (number * 10) (2 ^ 64 - 1) → plus ≡ min (times + digit) (2 ^ 64 - 1)
+    → min plus (limit + 1) ≡ min (value * 10 + digit) (limit + 1)
 known_more limit number value digit times plus l d n t p = omega arith
 
 pub returns-in_err-digit : goal.returns-in_err-digit
 returns-in_err-digit c =
     let within : c.loop-byte.byte-index < length c.args.word.now = omega arith in
     let none : (IsWhole c.args.word.now) → ⊥ = λ whole.
-    c.in_err-digit.ensures.value (subst (λ z. digit_value z < 10) (sym c.from.ensures) (digit_at c.args.word.now c.loop-byte.byte-index whole.1 within)) in
+    c.in_err-digit.ensures.value
+    (subst (λ z. digit_value z < 10) (sym c.from.ensures) (digit_at c.args.word.now c.loop-byte.byte-index whole.1 within)) in
     rw c.from_residual.ensures none
 
 pub loop-byte-preserved : goal.loop-byte-preserved
@@ -37,6 +41,8 @@ loop-byte-preserved c =
       digits = digits_more 10 word i within c.loop-byte.invariant.digits (subst (λ z. digit_value z < 10) c.from.ensures digit.0);
       number =
           c.min-number.ensures
-          ∙ known_more c.args.limit c.loop-byte.number (digits_value 10 (take i word)) c.in_ok-digit.digit c.saturating_mul.result c.saturating_add-longer.result c.requires (subst (λ z. z < 10) (sym digit.1) digit.0) c.loop-byte.invariant.number c.saturating_mul.ensures longer
+          ∙ known_more c.args.limit c.loop-byte.number
+          (digits_value 10 (take i word)) c.in_ok-digit.digit c.saturating_mul.result c.saturating_add-longer.result c.requires
+          (subst (λ z. z < 10) (sym digit.1) digit.0) c.loop-byte.invariant.number c.saturating_mul.ensures longer
           ∙ ap (λ z. min z (c.args.limit + 1)) value;
     }

@@ -10,5 +10,7 @@ returns-in-Err-clause-fault c = λ entries.
       key = record { from = states.from; to = states.to };
       word = states.rate.now;
       has = c.in_ok-states.ensures.states;
-      is = number_fault states.rate.now c.in-Err.fault (λ e. found.not_number.0 (ap Err e)) (λ e. found.too_fine.0 (ap Err e)) (λ e. found.too_big.0 (ap Err e));
+      is =
+          number_fault states.rate.now c.in-Err.fault (λ e. found.not_number.0 (ap Err e)) (λ e. found.too_fine.0 (ap Err e))
+          (λ e. found.too_big.0 (ap Err e));
     }

@@ -8,7 +8,8 @@ use Rattle.tra_reader.proofs.rates.rates_of.Goals as goal
 use Rattle.tra_reader.proofs.rates.rates_of.Goals.{then-rate-gt0+in_ok-push, else-rate-gt0}
 
 -- the transition that the code writes is the one that is kept
-written : (scale from to rate : ℕ) (e : EntryLine Pair) → from ≡ e.key.from → to ≡ e.key.to → rate ≡ rate_at scale e → ◌≡◌ {A = Rate} (record { from = from; to = to; rate = rate }) (kept_rate scale e)
+written : (scale from to rate : ℕ) (e : EntryLine Pair) → from ≡ e.key.from → to ≡ e.key.to → rate ≡ rate_at scale e
+    → ◌≡◌ {A = Rate} (record { from = from; to = to; rate = rate }) (kept_rate scale e)
 written scale from to rate e f t r =
     let with_from : ℕ → Rate = λ z. record { from = z; to = to; rate = rate } in
     let with_to : ℕ → Rate = λ z. record { from = e.key.from; to = z; rate = rate } in
@@ -26,12 +27,16 @@ loop-entry-preserved c =
     elim c.if-rate-gt0.branch [
       | then-rate-gt0+in_ok-push w ↦
           let some : 0 < rate_at scale e = omega (arith, w.if-rate-gt0.true) in
-          let pushed = written scale w.from.result w.from-then-rate-gt0.result c.value_at-rate.result e w.from.ensures w.from-then-rate-gt0.ensures rate in
+          let pushed =
+          written scale w.from.result w.from-then-rate-gt0.result c.value_at-rate.result e w.from.ensures w.from-then-rate-gt0.ensures rate
+          in
           ap (λ v. v.items) w.rates-is
           ∙ (w.in_ok-push.ensures.items
           ∙ (ap (λ z. c.loop-entry.rates.items ++ z ∷ []) pushed
-          ∙ (ap (λ z. z ++ kept_rate scale e ∷ []) c.loop-entry.invariant ∙ sym (chain-kept scale entries i no_entry within (lt-ltb 0 (rate_at scale e) some)))))
+          ∙
+          (ap (λ z. z ++ kept_rate scale e ∷ []) c.loop-entry.invariant ∙ sym (chain-kept scale entries i no_entry within (lt-ltb 0 (rate_at scale e) some)))))
       | else-rate-gt0 w ↦
           let none : rate_at scale e ≤ 0 = omega (arith, w.if-rate-gt0.false) in
-          ap (λ v. v.items) w.rates-is ∙ (c.loop-entry.invariant ∙ sym (chain-dropped scale entries i no_entry within (le-ltb 0 (rate_at scale e) none)))
+          ap (λ v. v.items) w.rates-is
+          ∙ (c.loop-entry.invariant ∙ sym (chain-dropped scale entries i no_entry within (le-ltb 0 (rate_at scale e) none)))
     ]

@@ -8,6 +8,10 @@ pub loop-i-preserved : goal.loop-i-preserved
 loop-i-preserved c =
     let entries = c.args.entries.now in
     let i = c.loop-i.i in
-    let this : c.number_of.result ≡ get_or (map number_of entries) i 0 = c.number_of.ensures.number ∙ sym (get_or-map number_of entries i _ 0 (omega arith)) in
-    let before : c.number_of-in-loop-i.result ≡ get_or (map number_of entries) (i - 1) 0 = c.number_of-in-loop-i.ensures.number ∙ sym (get_or-map number_of entries (i - 1) _ 0 (omega arith)) in
+    let this : c.number_of.result ≡ get_or (map number_of entries) i 0 =
+    c.number_of.ensures.number ∙ sym (get_or-map number_of entries i _ 0 (omega arith))
+    in
+    let before : c.number_of-in-loop-i.result ≡ get_or (map number_of entries) (i - 1) 0 =
+    c.number_of-in-loop-i.ensures.number ∙ sym (get_or-map number_of entries (i - 1) _ 0 (omega arith))
+    in
     rises-more (map number_of entries) i (omega arith) (omega (arith, this, before)) c.loop-i.invariant

@@ -23,8 +23,12 @@ returns-in-Some-clause-fault c =
     let es = c.args.entries.now in
     let scale = c.scale_of-scale.result in
     let place = c.in-Some.place in
-    let found = subst (λ z. MatchOption z (AreWithin scale (entries_of pair_of es)) (IsFirstLarge scale es)) c.in-Some.is c.in_ok-place.ensures in
-    let first = subst (λ z. IsFirstLarge z es place) (c.scale_of-scale.ensures ∙ same_scale (transition_lines c.args.n) pair_of es) found in
+    let found =
+    subst (λ z. MatchOption z (AreWithin scale (entries_of pair_of es)) (IsFirstLarge scale es)) c.in-Some.is c.in_ok-place.ensures
+    in
+    let first =
+    subst (λ z. IsFirstLarge z es place) (c.scale_of-scale.ensures ∙ same_scale (transition_lines c.args.n) pair_of es) found
+    in
     rw c.at.ensures (record {
       place = place;
       first = first;
@@ -42,7 +46,8 @@ pub rates_of-requires-clause-fits : goal.rates_of-requires-clause-fits
 rates_of-requires-clause-fits c =
     let es = c.args.entries.now in
     let scale = c.scale_of-scale.result in
-    rates-fit scale es (subst (λ z. MatchOption z (AreWithin scale (entries_of pair_of es)) (IsFirstLarge scale es)) c.in_default.is c.in_ok-place.ensures)
+    rates-fit scale es
+    (subst (λ z. MatchOption z (AreWithin scale (entries_of pair_of es)) (IsFirstLarge scale es)) c.in_default.is c.in_ok-place.ensures)
 
 pub new-requires : goal.new-requires
 new-requires c =
@@ -56,7 +61,9 @@ pub returns-clause-value : goal.returns-clause-value
 returns-clause-value c =
     let es = c.args.entries.now in
     let scale = c.scale_of-scale.result in
-    let within = subst (λ z. MatchOption z (AreWithin scale (entries_of pair_of es)) (IsFirstLarge scale es)) c.in_default.is c.in_ok-place.ensures in
+    let within =
+    subst (λ z. MatchOption z (AreWithin scale (entries_of pair_of es)) (IsFirstLarge scale es)) c.in_default.is c.in_ok-place.ensures
+    in
     let made : IsChainOf c.args.n es (record { n = c.args.n; scale = c.scale_of-scale.result; rates = c.in_ok-rates.rates.items }) = record {
       states = refl;
       scale = c.scale_of-scale.ensures ∙ same_scale (transition_lines c.args.n) pair_of es;

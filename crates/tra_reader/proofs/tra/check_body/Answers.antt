@@ -16,29 +16,25 @@ returns-then-place-len c =
 
 pub returns-in-AllRead : goal.returns-in-AllRead
 returns-in-AllRead c =
-    let place = c.in_ok-place.place in
-    let first = subst (λ z. IsFirstRepeated z place) c.deref.ensures.value c.in_ok-place.ensures in
-    whole c.args.body.now place first (omega (arith, c.len.ensures, c.if-place-len.false)) c.in-AllRead.is
+    whole c.args.body.now c.in_ok-place.place
+    (subst (λ z. IsFirstRepeated z c.in_ok-place.place) c.deref.ensures.value c.in_ok-place.ensures)
+    (omega (arith, c.len.ensures, c.if-place-len.false)) c.in-AllRead.is
 
 pub returns-in-Missing : goal.returns-in-Missing
 returns-in-Missing c =
-    let place = c.in_ok-place.place in
-    let first = subst (λ z. IsFirstRepeated z place) c.deref.ensures.value c.in_ok-place.ensures in
     rw (c.at-in-Missing.ensures, c.end_line.ensures)
-    (missing c.args.body.now place first (omega (arith, c.len.ensures, c.if-place-len.false)) (word_lines_of c.args.bytes.now) (end_line_of c.args.bytes.now) c.in-Missing.is)
+    (missing c.args.body.now c.in_ok-place.place (subst (λ z. IsFirstRepeated z c.in_ok-place.place) c.deref.ensures.value c.in_ok-place.ensures)
+    (omega (arith, c.len.ensures, c.if-place-len.false)) (word_lines_of c.args.bytes.now) (end_line_of c.args.bytes.now) c.in-Missing.is)
 
 pub returns-in-Further : goal.returns-in-Further
 returns-in-Further c =
-    let place = c.in_ok-place.place in
-    let first = subst (λ z. IsFirstRepeated z place) c.deref.ensures.value c.in_ok-place.ensures in
-    rw c.at-in-Further.ensures
-    (further c.args.body.now place first (omega (arith, c.len.ensures, c.if-place-len.false)) (word_lines_of c.args.bytes.now) (end_line_of c.args.bytes.now)
-    c.in-Further.line c.in-Further.is)
+    let first = subst (λ z. IsFirstRepeated z c.in_ok-place.place) c.deref.ensures.value c.in_ok-place.ensures in
+    let again = further c.args.body.now c.in_ok-place.place first (omega (arith, c.len.ensures, c.if-place-len.false)) in
+    rw c.at-in-Further.ensures (again (word_lines_of c.args.bytes.now) (end_line_of c.args.bytes.now) c.in-Further.line c.in-Further.is)
 
 pub returns-in-Failing : goal.returns-in-Failing
 returns-in-Failing c =
-    let place = c.in_ok-place.place in
-    let first = subst (λ z. IsFirstRepeated z place) c.deref.ensures.value c.in_ok-place.ensures in
     rw c.at-in-Failing.ensures
-    (failing c.args.body.now place first (omega (arith, c.len.ensures, c.if-place-len.false)) (word_lines_of c.args.bytes.now) (end_line_of c.args.bytes.now)
+    (failing c.args.body.now c.in_ok-place.place (subst (λ z. IsFirstRepeated z c.in_ok-place.place) c.deref.ensures.value c.in_ok-place.ensures)
+    (omega (arith, c.len.ensures, c.if-place-len.false)) (word_lines_of c.args.bytes.now) (end_line_of c.args.bytes.now)
     c.in-Failing.line c.in-Failing.what c.in-Failing.is)

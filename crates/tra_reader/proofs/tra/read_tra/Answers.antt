@@ -11,9 +11,11 @@ returns-clause-fault c = told_at (TraFaultAt c.args.bytes.now) c.read_lines.resu
 pub returns-clause-says : goal.returns-clause-says
 returns-clause-says c =
     let text = c.args.bytes.now in
-    says_exactly (TraSays text) (TraFaultAt text) (tra_reading text) c.read_lines.result c.read_lines.ensures.value (returns-clause-fault c)
+    says_exactly (TraSays text) (TraFaultAt text) (tra_reading text) c.read_lines.result c.read_lines.ensures.value
+    (returns-clause-fault c)
 
 pub returns-clause-faulty : goal.returns-clause-faulty
 returns-clause-faulty c =
     let text = c.args.bytes.now in
-    faulty_exactly (TraSays text) (TraFaultAt text) (tra_reading text) c.read_lines.result c.read_lines.ensures.value (returns-clause-fault c)
+    faulty_exactly (TraSays text) (TraFaultAt text) (tra_reading text) c.read_lines.result c.read_lines.ensures.value
+    (returns-clause-fault c)

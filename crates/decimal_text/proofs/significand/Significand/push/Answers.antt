@@ -24,7 +24,8 @@ ends_with : (h z d : ℕ) → d < 10 → d ≢ 0 → (h * 10 ^ (z + 1) + d) % 10
 ends_with h z d l n e =
     omega (arith, e, ap (λ p. h * p) (ap (λ k. 10 ^ k) (add-one z) ∙ pow-suc 10 z))
 
-pushed : (g h k front d r : ℕ) → g ≡ up_to_limit h → front ≡ up_to_limit (g * 10 ^ k) → r ≡ up_to_limit (front + d) → r ≡ up_to_limit (h * 10 ^ k + d)
+pushed : (g h k front d r : ℕ) → g ≡ up_to_limit h → front ≡ up_to_limit (g * 10 ^ k) → r ≡ up_to_limit (front + d)
+    → r ≡ up_to_limit (h * 10 ^ k + d)
 pushed g h k front d r e f s = s ∙ known_plus front (h * 10 ^ k) d (f ∙ known_times g h (10 ^ k) e (ten_pos k))
 
 pub returns-clause-number : goal.returns-clause-number

@@ -18,7 +18,10 @@ invariant_of-result c =
       lists = record {
         tra = tra;
         lab = c.lab.invariant;
-        each_mark = ap (λ (lab : LabLists). length lab.marks) c.lab.view_is ∙ c.requires.marks ∙ sym (ap (λ (tra : TraLists). tra.n) c.tra.view_is);
+        each_mark =
+            ap (λ (lab : LabLists). length lab.marks) c.lab.view_is
+            ∙ c.requires.marks
+            ∙ sym (ap (λ (tra : TraLists). tra.n) c.tra.view_is);
         each_reward = λ rew is. c.requires.rewards rew is ∙ sym (ap (λ (tra : TraLists). tra.n) c.tra.view_is);
         order = IsInOrder-from_sorted _ _ tra.few_states tra.transitions tra.once c.in_order-rates.ensures.ascending;
       };
@@ -39,6 +42,7 @@ returns c =
         names = refl;
         marks = refl;
         rewards = refl;
-        same_chain = λ s t. sum_by-IsPermutation (λ (r : Rate). cond ((r.from == s) && (r.to == t)) r.rate 0) _ _ c.in_order-rates.ensures.same;
+        same_chain =
+            λ s t. sum_by-IsPermutation (λ (r : Rate). cond ((r.from == s) && (r.to == t)) r.rate 0) _ _ c.in_order-rates.ensures.same;
       };
     })

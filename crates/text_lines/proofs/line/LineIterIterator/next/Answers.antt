@@ -6,7 +6,9 @@ use Rattle.text_lines.proofs.line.LineIterIterator.next.Goals as goal
 pub returns-then-is_empty-clause-steps : goal.returns-then-is_empty-clause-steps
 returns-then-is_empty-clause-steps c =
     let empty : length c.self.inside.rest.now ≡ 0 = search rules in
-    let none : c.args.self.now ≡ [] = sym c.self.view_is ∙ ap (numbered_from c.self.inside.number) (line_bytes-empty c.self.inside.rest.now empty) in
+    let none : c.args.self.now ≡ [] =
+    sym c.self.view_is ∙ ap (numbered_from c.self.inside.number) (line_bytes-empty c.self.inside.rest.now empty)
+    in
     (none, none)
 
 pub returns-clause-steps : goal.returns-clause-steps

@@ -5,7 +5,9 @@ use Rattle.text_lines.proofs.word.WordIterIterator.next.Goals as goal
 
 pub returns-in_err-blanks-clause-steps : goal.returns-in_err-blanks-clause-steps
 returns-in_err-blanks-clause-steps c =
-    let none : c.args.self.now ≡ [] = sym c.self.view_is ∙ words_from-end c.self.inside.column c.self.inside.rest.now c.in_err-blanks.ensures in
+    let none : c.args.self.now ≡ [] =
+    sym c.self.view_is ∙ words_from-end c.self.inside.column c.self.inside.rest.now c.in_err-blanks.ensures
+    in
     rw c.from_residual.ensures (none, none)
 
 pub returns-clause-steps : goal.returns-clause-steps
