@@ -19,7 +19,7 @@ pub use bracket::Bracket;
 pub use frame::Frame;
 pub use laws::{frame_rows_are_whole, plan_tables_round};
 pub use mix::Mix;
-pub use one_thread::plain_tables;
+pub use one_thread::{plain_tables, set_layer};
 pub use plan::Plan;
 pub use plan_error::PlanError;
 pub use row::Row;
