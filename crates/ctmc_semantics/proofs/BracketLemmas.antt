@@ -44,13 +44,22 @@ module _ (r : Rows) (j : Jumps) (is : IsRowsOf r j) (stochastic : IsStochastic j
     pub low_at_most_one : low_table r live goal k s ≤ one_word
     low_at_most_one =
         le_of_mul-le-mul_right {k = j.total ^ k}
-        (omega (arith, low_below r j is live goal k s row_inside, mul-le-mul_left one_word (jump_value_capped j stochastic live goal k s inside)))
+        (omega (
+          arith,
+          low_below r j is live goal k s row_inside,
+          mul-le-mul_left one_word (jump_value_capped j stochastic live goal k s inside),
+        ))
         (one-le-pow k j.total some)
 
     pub high_near_low : high_table r live goal (set_words goal) k s ≤ low_table r live goal k s + 2 * k
     high_near_low =
         le_of_mul-le-mul_right {k = j.total ^ k}
-        (omega (arith, high_under r j is live goal (set_words goal) k s row_inside, goal_starts j live goal k s, low_above r j is live goal k s row_inside))
+        (omega (
+          arith,
+          high_under r j is live goal (set_words goal) k s row_inside,
+          goal_starts j live goal k s,
+          low_above r j is live goal k s row_inside,
+        ))
         (one-le-pow k j.total some)
 
 pub mix_contains : (r : Rows) (j : Jumps) (load : Fraction) (bits : ℕ) (sets : KnownSets) (live goal : ℕ → Bool) (s : ℕ)

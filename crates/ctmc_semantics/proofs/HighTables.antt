@@ -74,7 +74,8 @@ module _ (r : Rows) (j : Jumps) (is : IsRowsOf r j) (live goal : ℕ → Bool) (
   pub high_under : (k s : ℕ) → s < r.states → word k s * j.total ^ k ≤ value k s + k * j.total ^ k
   high_under zero s l = rw pow-zero (omega arith)
   high_under (suc k) s l =
-      let sums : sum_below r.states (λ t. r.num s t * word k t) * j.total ^ k ≤ sum_below r.states (λ t. r.num s t * value k t) + k * r.den s * j.total ^ k =
+      let sums : sum_below r.states (λ t. r.num s t * word k t) * j.total ^ k
+      ≤ sum_below r.states (λ t. r.num s t * value k t) + k * r.den s * j.total ^ k =
       rw (is.whole s l) at (under_sum r.states (j.total ^ k) k (r.num s) (word k) (value k) (λ t i. high_under k t i)) in
       rw (pow-suc j.total k)
       (cases_under (goal s) (live s) one_word (suc k) _ _ _ _ refl
@@ -94,19 +95,22 @@ same_start : (g : Bool) (one : ℕ) → cond g one 0 ≡ one * cond g 1 0
 same_start true one = omega arith
 same_start false one = omega arith
 
-pub goal_starts : (j : Jumps) (live goal : ℕ → Bool) (k s : ℕ) → exact_word j live goal (set_words goal) k s ≡ one_word * jump_value j live goal k s
+pub goal_starts : (j : Jumps) (live goal : ℕ → Bool) (k s : ℕ)
+    → exact_word j live goal (set_words goal) k s ≡ one_word * jump_value j live goal k s
 goal_starts j live goal zero s = same_start (goal s) one_word
 goal_starts j live goal (suc k) s =
     same_cases (goal s) (live s) one_word _ _ _
     (same_sum j.states one_word (j.weight s) _ _ (λ t. goal_starts j live goal k t))
 
 -- ---- a start above all jump values
-cases_stay : (g l : Bool) (one p q q' x y : ℕ) → q ≡ q' * p → one * y ≤ x * p → one * cond g q (cond l y 0) ≤ cond g (one * q') (cond l x 0) * p
+cases_stay : (g l : Bool) (one p q q' x y : ℕ) → q ≡ q' * p → one * y ≤ x * p
+    → one * cond g q (cond l y 0) ≤ cond g (one * q') (cond l x 0) * p
 cases_stay true l one p q q' x y e h = omega (arith, ap (λ z. one * z) e)
 cases_stay false true one p q q' x y e h = h
 cases_stay false false one p q q' x y e h = omega arith
 
-sum_stay : (n one p : ℕ) (w x y : ℕ → ℕ) → ((t : ℕ) → t < n → one * y t ≤ x t * p) → one * sum_below n (λ t. w t * y t) ≤ sum_below n (λ t. w t * x t) * p
+sum_stay : (n one p : ℕ) (w x y : ℕ → ℕ) → ((t : ℕ) → t < n → one * y t ≤ x t * p)
+    → one * sum_below n (λ t. w t * y t) ≤ sum_below n (λ t. w t * x t) * p
 sum_stay zero one p w x y h = omega arith
 sum_stay (suc n) one p w x y h =
     omega (arith, sum_stay n one p w x y (λ t l. h t (omega arith)), mul-le-mul_left (w n) (h n (omega arith)))

@@ -41,7 +41,8 @@ module _ (a b total : ℕ) (value : ℕ → ℕ) (capped : (k : ℕ) → value k
   weight_grown zero k l = rw (add-zero n) (omega arith)
   weight_grown (suc i) k l =
       rw (add-suc n i)
-      (weight_more a b (n + i) k (omega arith) ∙ ap (λ z. b * suc (n + i) * z) (weight_grown i k l) ∙ sym (mul_assoc (b * suc (n + i)) (grown i) (poisson_weight a b n k)))
+      (weight_more a b (n + i) k (omega arith) ∙ ap (λ z. b * suc (n + i) * z) (weight_grown i k l)
+      ∙ sym (mul_assoc (b * suc (n + i)) (grown i) (poisson_weight a b n k)))
 
   older_weights : (i : ℕ) → sum_below (suc n) (poisson_weight a b (n + i)) ≡ grown i * weights a b total value n
   older_weights i =

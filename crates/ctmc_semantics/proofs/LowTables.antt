@@ -1,6 +1,7 @@
 -- The lower table against the jump values: never above, and below by at most a unit a layer.
 use Rattle.std.proofs.Common.{◌≡◌, ℕ, zero, suc, ◌+◌, ◌*◌, ◌/◌, ◌^◌, ◌≤◌, ◌<◌, Bool, true, false, cond, refl, ap, subst, arith}
-use Rattle.std.proofs.Math.Nat.{mul-le-mul_left, mul-le-mul_right, pow-suc, pow-zero, div-mul-le_self, lt-div-mul-add, le_of_mul-le-mul_right}
+use Rattle.std.proofs.Math.Nat.{mul-le-mul_left, mul-le-mul_right, pow-suc, pow-zero, div-mul-le_self, lt-div-mul-add}
+use Rattle.std.proofs.Math.Nat.{le_of_mul-le-mul_right}
 use Rattle.ctmc_semantics.specs.Sum.{sum_below}
 use Rattle.ctmc_semantics.specs.Jumps.{Jumps}
 use Rattle.ctmc_semantics.specs.JumpValue.{jump_value}
@@ -45,7 +46,8 @@ cases_below true l one p x y q e h = omega (arith, ap (λ z. one * z) e)
 cases_below false true one p x y q e h = h
 cases_below false false one p x y q e h = omega arith
 
-cases_above : (g l : Bool) (one k p x y q : ℕ) → p ≡ q → one * y ≤ (x + k) * p → one * cond g q (cond l y 0) ≤ (cond g one (cond l x 0) + k) * p
+cases_above : (g l : Bool) (one k p x y q : ℕ) → p ≡ q → one * y ≤ (x + k) * p
+    → one * cond g q (cond l y 0) ≤ (cond g one (cond l x 0) + k) * p
 cases_above true l one k p x y q e h = omega (arith, ap (λ z. one * z) e)
 cases_above false true one k p x y q e h = h
 cases_above false false one k p x y q e h = omega arith
@@ -83,7 +85,8 @@ module _ (r : Rows) (j : Jumps) (is : IsRowsOf r j) (live goal : ℕ → Bool) w
   pub low_above : (k s : ℕ) → s < r.states → one_word * value k s ≤ (word k s + k) * j.total ^ k
   low_above zero s l = start_above (goal s) one_word _ (pow-zero j.total)
   low_above (suc k) s l =
-      let sums : one_word * sum_below r.states (λ t. r.num s t * value k t) ≤ (sum_below r.states (λ t. r.num s t * word k t) + k * r.den s) * j.total ^ k =
+      let sums : one_word * sum_below r.states (λ t. r.num s t * value k t)
+      ≤ (sum_below r.states (λ t. r.num s t * word k t) + k * r.den s) * j.total ^ k =
       rw (is.whole s l) at (above_sum r.states (j.total ^ k) k one_word (r.num s) (word k) (value k) (λ t i. low_above k t i)) in
       rw (pow-suc j.total k)
       (cases_above (goal s) (live s) one_word (suc k) _ _ _ _ refl

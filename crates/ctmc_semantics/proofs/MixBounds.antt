@@ -22,25 +22,51 @@ use Rattle.ctmc_semantics.proofs.OneStep.{le_ceil, twice_load}
 
 -- ---- over plain numbers: m the mode's weight, p the power of the total, t and s the average's two sums
 -- one term: x the rounded weight, y the word, w the exact weight, v the value, q q' the powers with p = q * q'
-term_low : (one g m x y w v p q q' : ℕ) → p ≡ q * q' → x * m ≤ one * w → y * q ≤ one * v → x * y / g * (g * m * p) ≤ one * one * (w * v * q')
+term_low : (one g m x y w v p q q' : ℕ) → p ≡ q * q' → x * m ≤ one * w → y * q ≤ one * v
+    → x * y / g * (g * m * p) ≤ one * one * (w * v * q')
 term_low one g m x y w v p q q' e h k =
-    rw e (omega (arith, mul-le-mul_right (m * q * q') (div-mul-le_self (x * y) g), mul-le-mul_right (y * q * q') h, mul-le-mul_left (one * w * q') k))
+    rw e (omega (
+      arith,
+      mul-le-mul_right (m * q * q') (div-mul-le_self (x * y) g),
+      mul-le-mul_right (y * q * q') h,
+      mul-le-mul_left (one * w * q') k,
+    ))
 
-term_high : (one g m x y w v p q q' : ℕ) → p ≡ q * q' → 0 < g → one * w ≤ x * m → one * v ≤ y * q → one * one * (w * v * q') ≤ div_ceil (x * y) g * (g * m * p)
+term_high : (one g m x y w v p q q' : ℕ) → p ≡ q * q' → 0 < g → one * w ≤ x * m → one * v ≤ y * q
+    → one * one * (w * v * q') ≤ div_ceil (x * y) g * (g * m * p)
 term_high one g m x y w v p q q' e pos h k =
-    rw e (omega (arith, mul-le-mul_right (m * q * q') (le_ceil (x * y) g pos), mul-le-mul_right (one * v * q') h, mul-le-mul_left (x * m * q') k))
+    rw e (omega (
+      arith,
+      mul-le-mul_right (m * q * q') (le_ceil (x * y) g pos),
+      mul-le-mul_right (one * v * q') h,
+      mul-le-mul_left (x * m * q') k,
+    ))
 
 -- the whole: top the mix's sum, dh and dl its divisors, h and l the sums of the weights
-whole_low : (one g m p top d h s t : ℕ) → 0 < one → top * (g * m * p) ≤ one * one * t → h ≤ d * g → one * s ≤ h * m → top / d * (p * s) ≤ t * one
+whole_low : (one g m p top d h s t : ℕ) → 0 < one → top * (g * m * p) ≤ one * one * t → h ≤ d * g → one * s ≤ h * m
+    → top / d * (p * s) ≤ t * one
 whole_low one g m p top d h s t pos a b c =
     le_of_mul-le-mul_right {k = one}
-    (omega (arith, a, mul-le-mul_right (g * m * p) (div-mul-le_self top d), mul-le-mul_left (top / d * m * p) b, mul-le-mul_left (top / d * p) c))
+    (omega (
+      arith,
+      a,
+      mul-le-mul_right (g * m * p) (div-mul-le_self top d),
+      mul-le-mul_left (top / d * m * p) b,
+      mul-le-mul_left (top / d * p) c,
+    ))
     pos
 
-whole_high : (one g m p top d l s t : ℕ) → 0 < one → 0 < d → one * one * t ≤ top * (g * m * p) → d * g ≤ l → l * m ≤ one * s → t * one ≤ div_ceil top d * (p * s)
+whole_high : (one g m p top d l s t : ℕ) → 0 < one → 0 < d → one * one * t ≤ top * (g * m * p) → d * g ≤ l → l * m ≤ one * s
+    → t * one ≤ div_ceil top d * (p * s)
 whole_high one g m p top d l s t pos pd a b c =
     le_of_mul-le-mul_right {k = one}
-    (omega (arith, a, mul-le-mul_right (g * m * p) (le_ceil top d pd), mul-le-mul_left (div_ceil top d * m * p) b, mul-le-mul_left (div_ceil top d * p) c))
+    (omega (
+      arith,
+      a,
+      mul-le-mul_right (g * m * p) (le_ceil top d pd),
+      mul-le-mul_left (div_ceil top d * m * p) b,
+      mul-le-mul_left (div_ceil top d * p) c,
+    ))
     pos
 
 -- the tail: num / den the average at the horizon, two the power of the bits, unit * two = one
@@ -75,18 +101,21 @@ module _ (load : Fraction) (total n : ℕ) (value low high : ℕ → ℕ) (m : �
   mix_low_below x l h v =
       whole_low one_word (2 ^ 14) m (total ^ n) _ _ (sum_below (suc n) high) (sum_below (suc n) w) here.num (omega arith)
       (sum_scaled (suc n) (2 ^ 14 * m * total ^ n) (one_word * one_word) (λ k. low k * x k / 2 ^ 14) term
-      (λ k i. term_low one_word (2 ^ 14) m (low k) (x k) (w k) (value k) (total ^ n) (total ^ k) (total ^ (n - k)) (power_split total k n (omega arith)) (l k (omega arith)) (v k (omega arith))))
+      (λ k i. term_low one_word (2 ^ 14) m (low k) (x k) (w k) (value k) (total ^ n) (total ^ k) (total ^ (n - k))
+      (power_split total k n (omega arith)) (l k (omega arith)) (v k (omega arith))))
       (le_ceil (sum_below (suc n) high) (2 ^ 14) (omega arith))
       (sum_scaled' (suc n) m one_word high w (λ k i. h k (omega arith)))
 
   mix_high_above : (x : ℕ → ℕ) → ((k : ℕ) → k ≤ n → low k * m ≤ one_word * w k) → ((k : ℕ) → k ≤ n → one_word * w k ≤ high k * m)
       → ((k : ℕ) → k ≤ n → one_word * value k ≤ x k * total ^ k) → one_word ≤ sum_below (suc n) low
-      → here.num * one_word ≤ div_ceil (sum_below (suc n) (λ k. div_ceil (high k * x k) (2 ^ 14))) (sum_below (suc n) low / 2 ^ 14) * here.den
+      → here.num * one_word
+      ≤ div_ceil (sum_below (suc n) (λ k. div_ceil (high k * x k) (2 ^ 14))) (sum_below (suc n) low / 2 ^ 14) * here.den
   mix_high_above x l h v some =
       let divisor : 1 ≤ sum_below (suc n) low / 2 ^ 14 = le-div 1 (sum_below (suc n) low) (2 ^ 14) (omega arith) (omega (arith, some)) in
       whole_high one_word (2 ^ 14) m (total ^ n) _ _ (sum_below (suc n) low) (sum_below (suc n) w) here.num (omega arith) divisor
       (sum_scaled' (suc n) (2 ^ 14 * m * total ^ n) (one_word * one_word) (λ k. div_ceil (high k * x k) (2 ^ 14)) term
-      (λ k i. term_high one_word (2 ^ 14) m (high k) (x k) (w k) (value k) (total ^ n) (total ^ k) (total ^ (n - k)) (power_split total k n (omega arith)) (omega arith) (h k (omega arith)) (v k (omega arith))))
+      (λ k i. term_high one_word (2 ^ 14) m (high k) (x k) (w k) (value k) (total ^ n) (total ^ k) (total ^ (n - k))
+      (power_split total k n (omega arith)) (omega arith) (h k (omega arith)) (v k (omega arith))))
       (div-mul-le_self (sum_below (suc n) low) (2 ^ 14))
       (sum_scaled (suc n) m one_word low w (λ k i. l k (omega arith)))
 
@@ -133,8 +162,13 @@ module _ (load : Fraction) (pos : 0 < load.den) (bits : ℕ) where
         let e : last + (n - last) ≡ n = omega arith in
         under_both ((poisson_average load total value n).num * one_word) one_word _ (poisson_average load total value n).den
         (omega (arith, at_most_one load total value capped n))
-        (subst (λ (z : ℕ). (poisson_average load total value z).num * one_word ≤ (div_ceil (sum_below (suc last) (λ k. div_ceil (high_weight load k * x k) (2 ^ 14))) (sum_below (suc last) (low_weight load) / 2 ^ 14) + 2 ^ (62 - bits)) * (poisson_average load total value z).den) e
-        (with_tail one_word (2 ^ (62 - bits)) (2 ^ bits) _ (poisson_average load total value last).num (poisson_average load total value last).den _ _
+        (subst
+        (λ (z : ℕ). (poisson_average load total value z).num * one_word
+        ≤
+        (div_ceil (sum_below (suc last) (λ k. div_ceil (high_weight load k * x k) (2 ^ 14)))
+        (sum_below (suc last) (low_weight load) / 2 ^ 14) + 2 ^ (62 - bits)) * (poisson_average load total value z).den) e
+        (with_tail one_word (2 ^ (62 - bits)) (2 ^ bits) _ (poisson_average load total value last).num
+        (poisson_average load total value last).den _ _
         (den_positive load total value pos some last) (pow_pos bits) (unit_times b)
         (mix_high_above load total last value (low_weight load) (high_weight load) (poisson_weight load.num load.den last (mode load)) x
         (λ k i. low_weight_below load pos last k i mode_in) (λ k i. high_weight_above load pos last k i mode_in) v sum_one)

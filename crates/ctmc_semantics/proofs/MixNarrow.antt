@@ -25,7 +25,8 @@ ceil_rises x y d pos h = ceil_le x d (div_ceil y d) pos (omega (arith, le_ceil y
 pub mix_low_rises : (n : ℕ) (low high x y : ℕ → ℕ) → one_word ≤ sum_below (suc n) high → ((k : ℕ) → k ≤ n → x k ≤ y k)
     → mix_low n low high x ≤ mix_low n low high y
 mix_low_rises n low high x y some h =
-    let divisor : 0 < div_ceil (sum_below (suc n) high) (2 ^ 14) = omega (arith, le_ceil (sum_below (suc n) high) (2 ^ 14) (omega arith)) in
+    let divisor : 0 < div_ceil (sum_below (suc n) high) (2 ^ 14) =
+    omega (arith, le_ceil (sum_below (suc n) high) (2 ^ 14) (omega arith)) in
     div_rises _ _ (div_ceil (sum_below (suc n) high) (2 ^ 14)) divisor
     (sum_below-le (suc n) (λ k. low k * x k / 2 ^ 14) (λ k. low k * y k / 2 ^ 14)
     (λ k l. div_rises (low k * x k) (low k * y k) (2 ^ 14) (omega arith) (mul-le-mul_left (low k) (h k (omega arith)))))
@@ -71,12 +72,14 @@ cap_whole one g nl dh p sh pg pd x y z =
     (omega (arith, mul-le-mul_right g (div-mul-le_self nl dh), x, y, mul-le-mul_left one z)) (mul-pos pd pg)
 
 -- ---- sums
-term_high : (g d one two l h a b : ℕ) → 0 < g → h ≤ l + d → a ≤ one → b ≤ a + two → div_ceil (h * b) g * g ≤ l * a + (d * one + g) + two * h
+term_high : (g d one two l h a b : ℕ) → 0 < g → h ≤ l + d → a ≤ one → b ≤ a + two
+    → div_ceil (h * b) g * g ≤ l * a + (d * one + g) + two * h
 term_high g d one two l h a b pos i j k =
     let up : div_ceil (h * b) g * g < h * b + g = (div_ceil_times (h * b) g pos).1 in
     omega (arith, up, mul-le-mul_left h k, mul-le-mul_right a i, mul-le-mul_left d j)
 
-sum_high : (n g d one two : ℕ) (l h a b : ℕ → ℕ) → 0 < g → ((k : ℕ) → k < n → h k ≤ l k + d) → ((k : ℕ) → k < n → a k ≤ one) → ((k : ℕ) → k < n → b k ≤ a k + two)
+sum_high : (n g d one two : ℕ) (l h a b : ℕ → ℕ) → 0 < g → ((k : ℕ) → k < n → h k ≤ l k + d) → ((k : ℕ) → k < n → a k ≤ one)
+    → ((k : ℕ) → k < n → b k ≤ a k + two)
     → sum_below n (λ k. div_ceil (h k * b k) g) * g ≤ sum_below n (λ k. l k * a k) + n * (d * one + g) + two * sum_below n h
 sum_high zero g d one two l h a b pos i j k = omega arith
 sum_high (suc n) g d one two l h a b pos i j k =
@@ -98,16 +101,23 @@ sum_near : (n d : ℕ) (l h : ℕ → ℕ) → ((k : ℕ) → k < n → h k ≤ 
 sum_near zero d l h i = omega arith
 sum_near (suc n) d l h i = omega (arith, sum_near n d l h (λ t s. i t (omega arith)), i n (omega arith))
 
-pub sum_capped : (n one : ℕ) (l h a : ℕ → ℕ) → ((k : ℕ) → k < n → l k ≤ h k) → ((k : ℕ) → k < n → a k ≤ one) → sum_below n (λ k. l k * a k) ≤ one * sum_below n h
+pub sum_capped : (n one : ℕ) (l h a : ℕ → ℕ) → ((k : ℕ) → k < n → l k ≤ h k) → ((k : ℕ) → k < n → a k ≤ one)
+    → sum_below n (λ k. l k * a k) ≤ one * sum_below n h
 sum_capped zero one l h a i j = omega arith
 sum_capped (suc n) one l h a i j =
-    omega (arith, sum_capped n one l h a (λ t s. i t (omega arith)) (λ t s. j t (omega arith)), mul-le-mul_left (l n) (j n (omega arith)), mul-le-mul_left one (i n (omega arith)))
+    omega (
+      arith,
+      sum_capped n one l h a (λ t s. i t (omega arith)) (λ t s. j t (omega arith)),
+      mul-le-mul_left (l n) (j n (omega arith)),
+      mul-le-mul_left one (i n (omega arith)),
+    )
 
 small_enough : (n bits : ℕ) → n ≤ 16384 → bits ≤ 48
     → let e = suc n * (2 ^ 12 * (bits + 2) + 2 * n) in 2 * 2 ^ 14 + e + 2 * (suc n * 2 ^ 14) + 2 * n * (2 ^ 14 + e) ≤ 6 * one_word
 small_enough n bits h k =
     let e : ℕ = suc n * (2 ^ 12 * (bits + 2) + 2 * n) in
-    let first : suc n * (2 ^ 12 * (bits + 2) + 2 * n) ≤ 16385 * 237568 = mul-le (suc n) (2 ^ 12 * (bits + 2) + 2 * n) 16385 237568 (omega arith) (omega arith) in
+    let first : suc n * (2 ^ 12 * (bits + 2) + 2 * n) ≤ 16385 * 237568 =
+    mul-le (suc n) (2 ^ 12 * (bits + 2) + 2 * n) 16385 237568 (omega arith) (omega arith) in
     let second : 2 * n * (2 ^ 14 + suc n * (2 ^ 12 * (bits + 2) + 2 * n)) ≤ 32768 * (16384 + 16385 * 237568) =
     mul-le (2 * n) (2 ^ 14 + suc n * (2 ^ 12 * (bits + 2) + 2 * n)) 32768 (16384 + 16385 * 237568) (omega arith) (omega (arith, first)) in
     last n (suc n * (2 ^ 12 * (bits + 2) + 2 * n)) h first second
@@ -146,11 +156,18 @@ module _ (load : Fraction) (pos : 0 < load.den) (bits : ℕ) (few : bits ≤ 48)
     low_sum = let next : sum_below (suc n) l < sum_below (suc n) l / g * g + g = lt-div-mul-add (omega arith) in omega arith
 
     high_sum : div_ceil (sum_below (suc n) h) g * g ≤ sum_below (suc n) h + g
-    high_sum = let next : div_ceil (sum_below (suc n) h) g * g < sum_below (suc n) h + g = (div_ceil_times (sum_below (suc n) h) g (omega arith)).1 in omega arith
+    high_sum =
+        let next : div_ceil (sum_below (suc n) h) g * g < sum_below (suc n) h + g =
+        (div_ceil_times (sum_below (suc n) h) g (omega arith)).1 in omega arith
 
     high_divisor : 0 < div_ceil (sum_below (suc n) h) g
     high_divisor =
-        omega (arith, le_ceil (sum_below (suc n) h) g (omega arith), sum_one load pos bits, sum_below-le (suc n) l h (λ k i. ordered load pos k))
+        omega (
+          arith,
+          le_ceil (sum_below (suc n) h) g (omega arith),
+          sum_one load pos bits,
+          sum_below-le (suc n) l h (λ k i. ordered load pos k),
+        )
 
     abbrev nl : ℕ
     nl = sum_below (suc n) (λ k. l k * a k / g)
@@ -177,7 +194,11 @@ module _ (load : Fraction) (pos : 0 < load.den) (bits : ℕ) (few : bits ≤ 48)
         let under : nl < nl / dh * dh + dh = lt-div-mul-add high_divisor in
         narrow one_word g (suc n * d) n (div_ceil nh dl) (nl / dh) nh nl dh dl (sum_below (suc n) (λ k. l k * a k)) (sum_below (suc n) h)
         (omega (arith, divisor)) (omega (arith, over)) (omega (arith, under))
-        (omega (arith, sum_high (suc n) g d one_word (2 * n) l h a b (omega arith) near_here (λ k i. capped_word k (omega arith)) (λ k i. near_word k (omega arith))))
+        (omega (
+          arith,
+          sum_high (suc n) g d one_word (2 * n) l h a b (omega arith) near_here (λ k i. capped_word k (omega arith))
+              (λ k i. near_word k (omega arith)),
+        ))
         (sum_low (suc n) g (λ k. l k * a k) (omega arith))
         (omega (arith, high_sum, sums_near, low_sum)) low_capped (omega (arith, divisor)) (omega (arith, sums_near, low_sum))
         (small_enough n bits short few)
@@ -202,7 +223,8 @@ pub mix_high_reads : (n bits : ℕ) (low high x low' high' x' : ℕ → ℕ)
 mix_high_reads n bits low high x low' high' x' e f i =
     let top : sum_below (suc n) (λ k. div_ceil (high k * x k) (2 ^ 14)) ≡ sum_below (suc n) (λ k. div_ceil (high' k * x' k) (2 ^ 14)) =
     sum_below-same (suc n) (λ k. div_ceil (high k * x k) (2 ^ 14)) (λ k. div_ceil (high' k * x' k) (2 ^ 14))
-    (λ k l. let here : k ≤ n = omega arith in ap (λ z. div_ceil (z * x k) (2 ^ 14)) (f k here) ∙ ap (λ z. div_ceil (high' k * z) (2 ^ 14)) (i k here)) in
+    (λ k l. let here : k ≤ n = omega arith in ap (λ z. div_ceil (z * x k) (2 ^ 14)) (f k here)
+    ∙ ap (λ z. div_ceil (high' k * z) (2 ^ 14)) (i k here)) in
     let bottom : sum_below (suc n) low ≡ sum_below (suc n) low' = sum_below-same (suc n) low low' (λ k l. e k (omega arith)) in
     ap (λ z. min one_word (div_ceil z (sum_below (suc n) low / 2 ^ 14) + 2 ^ (62 - bits))) top
     ∙ ap (λ z. min one_word (div_ceil (sum_below (suc n) (λ k. div_ceil (high' k * x' k) (2 ^ 14))) (z / 2 ^ 14) + 2 ^ (62 - bits))) bottom

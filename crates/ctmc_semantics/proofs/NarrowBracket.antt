@@ -12,7 +12,8 @@ use Rattle.ctmc_semantics.proofs.BracketLemmas.{low_at_most_one, high_near_low}
 use Rattle.ctmc_semantics.proofs.Settled.{settled_narrow}
 
 module _ (r : Rows) (j : Jumps) (load : Fraction) (bits : ℕ) (live goal : ℕ → Bool) where
-  pub bracket_narrow : (s : ℕ) → IsRowsOf r j → IsStochastic j → 0 < j.total → 0 < load.den → bits ≤ 48 → horizon load bits ≤ 16384 → s < j.states
+  pub bracket_narrow : (s : ℕ) → IsRowsOf r j → IsStochastic j → 0 < j.total → 0 < load.den → bits ≤ 48 → horizon load bits ≤ 16384
+      → s < j.states
       → (until_words r load bits (known_exactly live goal) s).upper
       ≤ (until_words r load bits (known_exactly live goal) s).lower + greatest_width (horizon load bits) bits
   bracket_narrow s is stochastic some pos few short inside =
@@ -20,7 +21,8 @@ module _ (r : Rows) (j : Jumps) (load : Fraction) (bits : ℕ) (live goal : ℕ 
       (λ k l. low_at_most_one r j is stochastic s inside some live goal k)
       (λ k l. omega (arith, high_near_low r j is stochastic s inside some live goal k))
 
-  pub settled_bracket_narrow : (reach : ℕ → Bool) (s : ℕ) → IsRowsOf r j → IsStochastic j → 0 < j.total → 0 < load.den → bits ≤ 48 → horizon load bits ≤ 16384
+  pub settled_bracket_narrow : (reach : ℕ → Bool) (s : ℕ) → IsRowsOf r j → IsStochastic j → 0 < j.total → 0 < load.den → bits ≤ 48
+      → horizon load bits ≤ 16384
       → s < j.states
       → (settle (goal s) (reach s) (until_words r load bits (known_exactly live goal) s)).upper
       ≤ (settle (goal s) (reach s) (until_words r load bits (known_exactly live goal) s)).lower + greatest_width (horizon load bits) bits

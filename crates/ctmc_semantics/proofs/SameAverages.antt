@@ -17,7 +17,8 @@ same_term w v v' p q p' q' pn qn e f h = rw (e, f) (omega (arith, ap (λ z. w * 
 same_whole : (t t' p q s : ℕ) → t * q ≡ t' * p → t * (q * s) ≡ t' * (p * s)
 same_whole t t' p q s h = omega (arith, ap (λ z. z * s) h)
 
-pub rows_fix_averages : (r : Rows) (i j : Jumps) (load : Fraction) (live goal : ℕ → Bool) (n s : ℕ) → IsRowsOf r i → IsRowsOf r j → s < r.states
+pub rows_fix_averages : (r : Rows) (i j : Jumps) (load : Fraction) (live goal : ℕ → Bool) (n s : ℕ) → IsRowsOf r i → IsRowsOf r j
+    → s < r.states
     → until_average i load live goal s n ≈ until_average j load live goal s n
 rows_fix_averages r i j load live goal n s first second l =
     same_whole (until_average i load live goal s n).num (until_average j load live goal s n).num (i.total ^ n) (j.total ^ n)

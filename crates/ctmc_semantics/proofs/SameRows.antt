@@ -50,8 +50,10 @@ module _ (r : Rows) (i j : Jumps) (live goal : ℕ → Bool) (first : IsRowsOf r
       → sum_below r.states (λ t. i.weight s t * one k t) * p ≡ sum_below r.states (λ t. j.weight s t * other k t) * q
       → sum_below i.states (λ t. i.weight s t * one k t) * p ≡ sum_below j.states (λ t. j.weight s t * other k t) * q
   states_same k s p q e =
-      subst (λ (n : ℕ). sum_below i.states (λ t. i.weight s t * one k t) * p ≡ sum_below n (λ t. j.weight s t * other k t) * q) second.same_states
-      (subst (λ (n : ℕ). sum_below n (λ t. i.weight s t * one k t) * p ≡ sum_below r.states (λ t. j.weight s t * other k t) * q) first.same_states e)
+      subst (λ (n : ℕ). sum_below i.states (λ t. i.weight s t * one k t) * p ≡ sum_below n (λ t. j.weight s t * other k t) * q)
+      second.same_states
+      (subst (λ (n : ℕ). sum_below n (λ t. i.weight s t * one k t) * p ≡ sum_below r.states (λ t. j.weight s t * other k t) * q)
+      first.same_states e)
 
   pub same_values : (k s : ℕ) → s < r.states → one k s * j.total ^ k ≡ other k s * i.total ^ k
   same_values zero s l = rw (pow-zero i.total, pow-zero j.total)

@@ -58,7 +58,8 @@ whole_average : (load : Fraction) (total : ℕ) (value : ℕ → ℕ) → ((k : 
     → (poisson_average load total value n).num ≡ (poisson_average load total value n).den
 whole_average load total value h n =
     sum_below-same (suc n) _ (λ k. total ^ n * poisson_weight load.num load.den n k)
-    (λ k l. term_whole (poisson_weight load.num load.den n k) (value k) (total ^ n) (total ^ k) (total ^ (n - k)) (power_split total k n (omega arith)) (h k))
+    (λ k l. term_whole (poisson_weight load.num load.den n k) (value k) (total ^ n) (total ^ k) (total ^ (n - k))
+    (power_split total k n (omega arith)) (h k))
     ∙ sum_below-mul (suc n) (total ^ n) (poisson_weight load.num load.den n)
 
 term_none : (w v q' : ℕ) → v ≡ 0 → w * v * q' ≡ 0 * w
@@ -68,7 +69,8 @@ no_average : (load : Fraction) (total : ℕ) (value : ℕ → ℕ) → ((k : ℕ
     → (poisson_average load total value n).num ≡ 0
 no_average load total value h n =
     let none : (poisson_average load total value n).num ≡ 0 * sum_below (suc n) (poisson_weight load.num load.den n) =
-    sum_below-same (suc n) _ (λ k. 0 * poisson_weight load.num load.den n k) (λ k l. term_none (poisson_weight load.num load.den n k) (value k) (total ^ (n - k)) (h k))
+    sum_below-same (suc n) _ (λ k. 0 * poisson_weight load.num load.den n k)
+    (λ k l. term_none (poisson_weight load.num load.den n k) (value k) (total ^ (n - k)) (h k))
     ∙ sum_below-mul (suc n) 0 (poisson_weight load.num load.den n) in
     omega (arith, none)
 
@@ -99,7 +101,8 @@ settled_contains r j load bits sets live goal reach s is stochastic some pos b i
 pub settled_last_contains : (r : Rows) (j : Jumps) (last : ℕ) (sets : KnownSets) (live goal reach : ℕ → Bool) (s : ℕ)
     → IsRowsOf r j → IsStochastic j → 0 < j.total → s < j.states
     → LieBetween sets live goal → ReachesBack r sets.live_may sets.goal_may reach
-    → ContainsLimit (word_bracket (settle (sets.goal_must s) (reach s) (last_words r last sets reach s))) last (jump_fraction j live goal s)
+    → ContainsLimit (word_bracket (settle (sets.goal_must s) (reach s) (last_words r last sets reach s))) last
+    (jump_fraction j live goal s)
 settled_last_contains r j last sets live goal reach s is stochastic some inside between closed =
     settled_limit_cases (sets.goal_must s) (reach s) (last_words r last sets reach s) last (jump_fraction j live goal s)
     (λ g. goal_value j live goal s (between.goal_has s g))

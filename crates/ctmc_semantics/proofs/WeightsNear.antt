@@ -1,6 +1,7 @@
 -- The two lists of rounded weights: in order, at most 1, and near each other.
 use Rattle.std.proofs.Common.{◌≡◌, ℕ, zero, suc, ◌+◌, ◌-◌, ◌*◌, ◌/◌, ◌^◌, ◌≤◌, ◌<◌, true, false, ltb, ap, arith}
-use Rattle.std.proofs.Math.Nat.{mul-le-mul_left, mul-le-mul_right, div-mul-le_self, lt-div-mul-add, le_of_mul-le-mul_right, le_of_mul-le-mul_left, mul_assoc}
+use Rattle.std.proofs.Math.Nat.{mul-le-mul_left, mul-le-mul_right, div-mul-le_self, lt-div-mul-add, le_of_mul-le-mul_right}
+use Rattle.std.proofs.Math.Nat.{le_of_mul-le-mul_left, mul_assoc}
 use Rattle.std.proofs.Math.Decide.{dec_le}
 use Rattle.std.proofs.lemmas.Bool.Decides.{nat_tests}
 use Rattle.std.proofs.lemmas.Grind.{div_ceil_times}
@@ -21,7 +22,13 @@ low_under_high s x y p q pos h k =
 low_under_high' : (s x y p q : ℕ) → 0 < p → x ≤ y → p ≤ q → x * s / q ≤ div_ceil (y * s) p
 low_under_high' s x y p q pos h k =
     le_of_mul-le-mul_right {k = q}
-    (omega (arith, div-mul-le_self (x * s) q, le_ceil (y * s) p pos, mul-le-mul_right s h, mul-le-mul_left (div_ceil (y * s) p) k)) (omega arith)
+    (omega (
+      arith,
+      div-mul-le_self (x * s) q,
+      le_ceil (y * s) p pos,
+      mul-le-mul_right s h,
+      mul-le-mul_left (div_ceil (y * s) p) k,
+    )) (omega arith)
 
 high_capped : (one s q y : ℕ) → 0 < s → y ≤ one → q ≤ s → div_ceil (y * q) s ≤ one
 high_capped one s q y pos h k =
@@ -36,7 +43,16 @@ near_up g e one n s p x y i pos grid large small cap h =
     let down : x * p < x * p / s * s + s = lt-div-mul-add pos in
     let down' : x * p ≤ x * p / s * s + s = omega arith in
     le_of_mul-le-mul_right {k = s}
-    (omega (arith, mul-le-mul_left n up', mul-le-mul_left n down', mul-le-mul_right p h, mul-le-mul_left (i * (e + 2 * n)) small, mul-le-mul_left n cap, mul-le-mul_left e large, ap (λ z. n * z) grid))
+    (omega (
+      arith,
+      mul-le-mul_left n up',
+      mul-le-mul_left n down',
+      mul-le-mul_right p h,
+      mul-le-mul_left (i * (e + 2 * n)) small,
+      mul-le-mul_left n cap,
+      mul-le-mul_left e large,
+      ap (λ z. n * z) grid,
+    ))
     pos
 
 -- downward, c = one + 2 (p + 1)
@@ -48,7 +64,15 @@ near_down one s p x y i pos small cap h =
     let down : x * s < x * s / suc p * suc p + suc p = lt-div-mul-add (omega arith) in
     let down' : x * s ≤ x * s / suc p * suc p + suc p = omega arith in
     le_of_mul-le-mul_right {k = p}
-    (omega (arith, mul-le-mul_left (suc p) up', mul-le-mul_left p down', mul-le-mul_right s h, mul-le-mul_left (i * (one + 2 * suc p)) small, mul-le-mul_left s cap, mul-le-mul_left one small))
+    (omega (
+      arith,
+      mul-le-mul_left (suc p) up',
+      mul-le-mul_left p down',
+      mul-le-mul_right s h,
+      mul-le-mul_left (i * (one + 2 * suc p)) small,
+      mul-le-mul_left s cap,
+      mul-le-mul_left one small,
+    ))
     pos
 
 module _ (load : Fraction) (pos : 0 < load.den) where
@@ -69,23 +93,28 @@ module _ (load : Fraction) (pos : 0 < load.den) where
 
   upward_ordered : (i : ℕ) → low_upward load i ≤ high_upward load i
   upward_ordered zero = omega arith
-  upward_ordered (suc i) = low_under_high (2 ^ 50 * suc (m + i)) (low_upward load i) (high_upward load i) p (suc p) (omega arith) (upward_ordered i) (omega arith)
+  upward_ordered (suc i) =
+      low_under_high (2 ^ 50 * suc (m + i)) (low_upward load i) (high_upward load i) p (suc p) (omega arith) (upward_ordered i)
+      (omega arith)
 
   upward_capped : (i : ℕ) → high_upward load i ≤ one_word
   upward_capped zero = omega arith
-  upward_capped (suc i) = high_capped one_word (2 ^ 50 * suc (m + i)) (suc p) (high_upward load i) (omega arith) (upward_capped i) (small i)
+  upward_capped (suc i) =
+      high_capped one_word (2 ^ 50 * suc (m + i)) (suc p) (high_upward load i) (omega arith) (upward_capped i) (small i)
 
   upward_near : (i : ℕ) → suc m * high_upward load i ≤ suc m * low_upward load i + i * (2 ^ 12 + 2 * suc m)
   upward_near zero = omega arith
   upward_near (suc i) =
-      near_up (2 ^ 50) (2 ^ 12) one_word (suc m) (2 ^ 50 * suc (m + i)) p (low_upward load i) (high_upward load i) i (omega arith) (omega arith) (omega arith)
+      near_up (2 ^ 50) (2 ^ 12) one_word (suc m) (2 ^ 50 * suc (m + i)) p (low_upward load i) (high_upward load i) i (omega arith)
+      (omega arith) (omega arith)
       (omega (arith, small i)) (upward_capped i) (upward_near i)
 
   downward_ordered : (i : ℕ) → i ≤ m → low_downward load i ≤ high_downward load i
   downward_ordered zero l = omega arith
   downward_ordered (suc i) l =
       grouped (low_downward load i) (high_downward load i) (m - i) (2 ^ 50)
-      (low_under_high' ((m - i) * 2 ^ 50) (low_downward load i) (high_downward load i) p (suc p) (some (omega arith)) (downward_ordered i (omega arith)) (omega arith))
+      (low_under_high' ((m - i) * 2 ^ 50) (low_downward load i) (high_downward load i) p (suc p) (some (omega arith))
+      (downward_ordered i (omega arith)) (omega arith))
     where
       grouped : (x y n g : ℕ) → x * (n * g) / suc p ≤ div_ceil (y * (n * g)) p → x * n * g / suc p ≤ div_ceil (y * n * g) p
       grouped x y n g h = rw (mul_assoc x n g, mul_assoc y n g) h
@@ -110,13 +139,20 @@ module _ (load : Fraction) (pos : 0 < load.den) where
       let up : div_ceil (2 * load.num) load.den ≤ m + m + 2 = ceil_le (2 * load.num) load.den (m + m + 2) pos (omega (arith, next)) in
       omega arith
 
-  upward_last : (bits i : ℕ) → m + i ≤ horizon load bits → high_upward load i ≤ low_upward load i + (2 ^ 12 * (bits + 2) + 2 * horizon load bits)
+  upward_last : (bits i : ℕ) → m + i ≤ horizon load bits
+      → high_upward load i ≤ low_upward load i + (2 ^ 12 * (bits + 2) + 2 * horizon load bits)
   upward_last bits i l =
       let few : i ≤ (bits + 2) * suc m = omega (arith, twice_mode bits) in
       let last : i ≤ horizon load bits = omega arith in
-      le_of_mul-le-mul_left {k = suc m} (omega (arith, upward_near i, mul-le-mul_left (suc m) last, mul-le-mul_left (2 ^ 12) few)) (omega arith)
+      le_of_mul-le-mul_left {k = suc m} (omega (
+        arith,
+        upward_near i,
+        mul-le-mul_left (suc m) last,
+        mul-le-mul_left (2 ^ 12) few,
+      )) (omega arith)
 
-  downward_last : (bits i : ℕ) → i ≤ m → m ≤ horizon load bits → high_downward load i ≤ low_downward load i + (2 ^ 12 * (bits + 2) + 2 * horizon load bits)
+  downward_last : (bits i : ℕ) → i ≤ m → m ≤ horizon load bits
+      → high_downward load i ≤ low_downward load i + (2 ^ 12 * (bits + 2) + 2 * horizon load bits)
   downward_last bits i l h =
       let last : i ≤ horizon load bits = omega arith in
       le_of_mul-le-mul_left {k = suc p}
@@ -136,7 +172,8 @@ module _ (load : Fraction) (pos : 0 < load.den) where
         | no g ↦ (let t : ltb k m ≡ false = grind (arith, nat_tests) in rw t (upward_capped (k - m)))
       ]
 
-  pub near : (bits k : ℕ) → m ≤ horizon load bits → k ≤ horizon load bits → high_weight load k ≤ low_weight load k + (2 ^ 12 * (bits + 2) + 2 * horizon load bits)
+  pub near : (bits k : ℕ) → m ≤ horizon load bits → k ≤ horizon load bits
+      → high_weight load k ≤ low_weight load k + (2 ^ 12 * (bits + 2) + 2 * horizon load bits)
   near bits k h l =
       elim (dec_le (suc k) m) [
         | yes i ↦ (let t : ltb k m ≡ true = grind (arith, nat_tests) in rw t (downward_last bits (m - k) (omega arith) h))

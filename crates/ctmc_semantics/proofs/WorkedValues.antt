@@ -130,5 +130,6 @@ mix_of_none = refl
 low_mix_of_one : (until_words one_way_rows (fraction 1 1) 30 (known_exactly always second) 0).lower * 10 ^ 12 / 2 ^ 62 ≡ 632120558828
 low_mix_of_one = refl
 
-high_mix_of_one : div_ceil ((until_words one_way_rows (fraction 1 1) 30 (known_exactly always second) 0).upper * 10 ^ 12) (2 ^ 62) ≡ 632120559760
+high_mix_of_one : div_ceil ((until_words one_way_rows (fraction 1 1) 30 (known_exactly always second) 0).upper * 10 ^ 12) (2 ^ 62)
+    ≡ 632120559760
 high_mix_of_one = refl

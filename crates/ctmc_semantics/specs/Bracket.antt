@@ -29,7 +29,8 @@ pub record ContainsProbability (b : Bracket) (p : Fraction) : Type 0 where
 abbrev pub ContainsFrom : Bracket → ℕ → (ℕ → Fraction) → Type 0
 ContainsFrom b horizon x = (n : ℕ) → horizon ≤ n → ContainsProbability b (x n)
 
--- the bracket contains an unbounded until: its lower end is reached at the last number of jumps, and no number of jumps passes its upper end
+-- the bracket contains an unbounded until: its lower end is reached at the last number of jumps,
+-- and no number of jumps passes its upper end
 pub record ContainsLimit (b : Bracket) (last : ℕ) (x : ℕ → Fraction) : Type 0 where
   pub reached : b.low ≼ x last
   pub not_passed : (n : ℕ) → x n ≼ b.high

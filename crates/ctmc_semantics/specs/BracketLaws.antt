@@ -55,4 +55,5 @@ abbrev pub SettledLastContains : Type 0
 SettledLastContains =
     (r : Rows) (j : Jumps) (last : ℕ) (sets : KnownSets) (live goal reach : ℕ → Bool) (s : ℕ)
     → IsRowsOf r j → 0 < j.total → s < j.states → LieBetween sets live goal → ReachesBack r sets.live_may sets.goal_may reach
-    → ContainsLimit (word_bracket (settle (sets.goal_must s) (reach s) (last_words r last sets reach s))) last (jump_fraction j live goal s)
+    → ContainsLimit (word_bracket (settle (sets.goal_must s) (reach s) (last_words r last sets reach s))) last
+    (jump_fraction j live goal s)

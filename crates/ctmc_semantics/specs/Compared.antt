@@ -1,5 +1,5 @@
 -- How a probability is compared with a threshold: crosswise, in whole numbers.
-use Rattle.std.specs.Prelude.{ℕ, ◌*◌, Bool, nat_le, nat_lt}
+use Rattle.std.specs.Prelude.{◌*◌, Bool, nat_le, nat_lt}
 use Rattle.ctmc_semantics.specs.Fraction.{Fraction}
 use Rattle.ctmc_semantics.specs.Threshold.{Comparison, Less, AtMost, More, AtLeast}
 

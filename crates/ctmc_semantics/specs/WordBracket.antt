@@ -30,7 +30,9 @@ until_words r load bits sets s =
     let last = horizon load bits in
     record {
       lower = mix_low last (low_weight load) (high_weight load) (λ k. low_table r sets.live_must sets.goal_must k s);
-      upper = mix_high last bits (low_weight load) (high_weight load) (λ k. high_table r sets.live_may sets.goal_may (set_words sets.goal_may) k s);
+      upper =
+          mix_high last bits (low_weight load) (high_weight load)
+          (λ k. high_table r sets.live_may sets.goal_may (set_words sets.goal_may) k s);
     }
 
 -- the last words of a state's columns, for an unbounded until: the upper ones start from the states that can reach the goal

@@ -9,7 +9,8 @@ pub mod tables;
 pub mod verdicts;
 pub mod weights;
 
-ghost use Rattle.ctmc_semantics.specs.Laws.{NextIsAtMostOne, FractionsAreOrdered, OppositeIsNot, TestIsRight, ThresholdIsDecided, ThresholdReadsTheNumber};
+ghost use Rattle.ctmc_semantics.specs.Laws.{NextIsAtMostOne, FractionsAreOrdered, OppositeIsNot, TestIsRight, ThresholdIsDecided};
+ghost use Rattle.ctmc_semantics.specs.Laws.{ThresholdReadsTheNumber};
 
 /// The probability of a next operator never passes 1.
 pub fn next_is_at_most_one()

@@ -16,7 +16,8 @@ pub use laws::mix::{mix_encloses, mix_is_narrow, mix_reads, mix_rises};
 pub use laws::poisson::{averages_are_of_the_rows, averages_grow, averages_rise, tail_is_small};
 pub use laws::tables::{high_table_rounds, low_table_rounds, starts_are_kept};
 pub use laws::verdicts::{
-    constant_meets, failing_is_not_meeting, probability_is_decided, undecided_is_inside, until_is_decided,
+    constant_meets, failing_is_not_meeting, probability_is_decided, undecided_is_inside,
+    until_is_decided,
 };
 pub use laws::weights::{mode_weighs_one, weights_are_near, weights_enclose};
 pub use laws::{

@@ -1,5 +1,6 @@
 // The laws of Poisson averages.
-ghost use Rattle.ctmc_semantics.specs.PoissonLaws.{AveragesRise, AveragesAreFractions, AveragesAreAtMostOne, AveragesAreOfTheRows, AveragesGrow, TailIsSmall, AveragesStayNear};
+ghost use Rattle.ctmc_semantics.specs.PoissonLaws.{AveragesRise, AveragesAreFractions, AveragesAreAtMostOne, AveragesAreOfTheRows};
+ghost use Rattle.ctmc_semantics.specs.PoissonLaws.{AveragesGrow, TailIsSmall, AveragesStayNear};
 
 /// The average of a bounded until never falls as its cut grows, and never passes 1.
 pub fn averages_rise()

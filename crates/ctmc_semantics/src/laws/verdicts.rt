@@ -1,5 +1,6 @@
 // The laws of brackets and thresholds.
-ghost use Rattle.ctmc_semantics.specs.VerdictLaws.{ConstantMeets, FailingIsNotMeeting, ProbabilityIsDecided, BoundedUntilIsDecided, UnboundedUntilIsDecided, UndecidedIsInside};
+ghost use Rattle.ctmc_semantics.specs.VerdictLaws.{ConstantMeets, FailingIsNotMeeting, ProbabilityIsDecided, BoundedUntilIsDecided};
+ghost use Rattle.ctmc_semantics.specs.VerdictLaws.{UnboundedUntilIsDecided, UndecidedIsInside};
 
 /// The value of a constant sequence meets a threshold exactly where its member does.
 pub fn constant_meets()

@@ -1,5 +1,6 @@
 // The laws of the rounded Poisson weights.
-ghost use Rattle.ctmc_semantics.specs.WeightLaws.{WeightsEnclose, ModeIsWithin, ModeWeighsOne, WeightsAddUp, WeightsAreOrdered, WeightsAreAtMostOne, WeightsAreNear};
+ghost use Rattle.ctmc_semantics.specs.WeightLaws.{WeightsEnclose, ModeIsWithin, ModeWeighsOne, WeightsAddUp, WeightsAreOrdered};
+ghost use Rattle.ctmc_semantics.specs.WeightLaws.{WeightsAreAtMostOne, WeightsAreNear};
 
 /// The rounded weights enclose the exact ones.
 pub fn weights_enclose()

@@ -12,7 +12,11 @@ use Rattle.ctmc_semantics.proofs.laws.mix.mix_rises.Goals as goal
 pub returns-clause-low : goal.returns-clause-low
 returns-clause-low c = λ load bits x y pos h.
     let some : one_word ≤ sum_below (suc (horizon load bits)) (high_weight load) =
-    omega (arith, sum_one load pos bits, sum_below-le (suc (horizon load bits)) (low_weight load) (high_weight load) (λ k l. ordered load pos k)) in
+    omega (
+      arith,
+      sum_one load pos bits,
+      sum_below-le (suc (horizon load bits)) (low_weight load) (high_weight load) (λ k l. ordered load pos k),
+    ) in
     mix_low_rises (horizon load bits) (low_weight load) (high_weight load) x y some h
 
 pub returns-clause-high : goal.returns-clause-high
