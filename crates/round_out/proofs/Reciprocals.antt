@@ -1,10 +1,12 @@
 -- A quotient by a rounded reciprocal: never too large, and at most 1 too small.
 use Rattle.std.proofs.Common.{◌≡◌, ℕ, suc, ◌+◌, ◌-◌, ◌*◌, ◌/◌, ◌%◌, ◌^◌, ◌≤◌, ◌<◌, sym, ◌∙◌, ap, lit<, arith}
-use Rattle.std.proofs.Math.Nat.{mul-le-mul_left, mul-le-mul_right, le_of_mul-le-mul_right, lt_of_mul-lt-mul_right, div-mul-le_self, lt-div-mul-add}
+use Rattle.std.proofs.Math.Nat.{mul-le-mul_left, mul-le-mul_right, le_of_mul-le-mul_right, lt_of_mul-lt-mul_right, div-mul-le_self}
+use Rattle.std.proofs.Math.Nat.{lt-div-mul-add}
 use Rattle.std.proofs.lemmas.Nat.{div-mul-add, mod-mul-add}
 use Rattle.round_out.specs.Reciprocal.{IsPrepared}
 
--- p the products, d the divisor, m the power of two above it, v the reciprocal in units of `1 / (h * m)`, x four times the products in units of m, q the first quotient
+-- p the products, d the divisor, m the power of two above it, v the reciprocal in units of `1 / (h * m)`,
+-- x four times the products in units of m, q the first quotient
 module _ (h m d v p x q : ℕ) (some : 0 < d) (pos : 0 < 4 * (h * m)) (not_above : v * d ≤ h * m) (near : h * m ≤ suc v * d)
     (x_below : x * m ≤ 4 * p) (x_near : 4 * p ≤ suc x * m) (q_below : q * (4 * h) ≤ x * v) (q_near : x * v ≤ suc q * (4 * h))
     (p_small : 4 * p < 2 * h * m) (v_small : v ≤ 2 * h) where
@@ -56,7 +58,7 @@ first_is_near d m v bits p x q is small ex eq =
     }
 
 -- the same as the code has it: n the divisor that is seen, v' and d' the reciprocal and the divisor as wider numbers
-module _ (n d m v bits p x v' d' q : ℕ) (is : IsPrepared d m v bits) (seen : d ≡ n) (small : p ≤ n * 2 ^ 62)
+module _ {n d m v bits p x v' d' q : ℕ} (is : IsPrepared d m v bits) (seen : d ≡ n) (small : p ≤ n * 2 ^ 62)
     (ex : x ≡ p * 4 / m) (ev : v' ≡ v) (eq : q ≡ x * v' / 2 ^ 65) (ed : d' ≡ d) where
   pub near : IsNear p d q
   near =

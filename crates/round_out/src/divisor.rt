@@ -52,7 +52,7 @@ impl Divisor {
         self.den
     }
 
-    /// The quotient of the products, and what is left over.
+    // The quotient of the products, and what is left over.
     #[inline]
     pub(crate) fn quotient_and_rest(&self, products: u128) -> (u64, u64)
         requires { products ≤ self.now * 2 ^ 62 }
@@ -60,6 +60,12 @@ impl Divisor {
         ensures rest { result.1 ≡ products % self.now }
     {
         let den = self.den;
+        // The reciprocal is in units of 2^-(63 + bits), so that `products * 4 / 2^bits` times the
+        // reciprocal is the quotient in units of 2^-65. It comes out too small by less than 2: by
+        // less than a half for what `scaled` drops, since the reciprocal is at most 2^64, by less than
+        // a half for what the reciprocal lacks, since `scaled` is below 2^64, and by less than 1 in
+        // the shift. With 2 and 64 in place of 4 and 65 the first quotient could be 2 too small, and
+        // with 8 and 66 `scaled` could have 65 bits.
         let scaled = ((products * 4) >> self.bits) as u64;
         let first = ((u128::from(scaled) * u128::from(self.reciprocal)) >> 65) as u64;
         let rest = (products - u128::from(first) * u128::from(den)) as u64;

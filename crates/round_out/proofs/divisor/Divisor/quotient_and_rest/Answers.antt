@@ -1,4 +1,4 @@
-use Rattle.std.proofs.Common.{◌+◌, ◌^◌, ◌∙◌, ap, sym, arith}
+use Rattle.std.proofs.Common.{◌+◌, ◌∙◌, ap, sym, arith}
 use Rattle.round_out.proofs.Reciprocals.{rest_from, rest_to, exact_quotient, exact_rest, next_quotient, next_rest}
 use Rattle.round_out.proofs.divisor.Divisor.quotient_and_rest.Goals as goal
 
@@ -6,43 +6,38 @@ pub overflow_mul-rest : goal.overflow_mul-rest
 overflow_mul-rest c =
     omega (
       arith,
-      rest_from c.args.self.now c.self.inside.den (2 ^ c.self.inside.bits) c.self.inside.reciprocal c.self.inside.bits c.args.products c.from.result c.from-2.result c.from-4.result c.from-3.result
-          c.self.invariant c.self.view_is c.requires c.from.ensures c.from-2.ensures c.from-3.ensures c.from-4.ensures,
+      rest_from c.self.invariant c.self.view_is c.requires c.from.ensures c.from-2.ensures c.from-3.ensures c.from-4.ensures,
     )
 
 pub overflow_sub-rest : goal.overflow_sub-rest
 overflow_sub-rest c =
-    rest_from c.args.self.now c.self.inside.den (2 ^ c.self.inside.bits) c.self.inside.reciprocal c.self.inside.bits c.args.products c.from.result c.from-2.result c.from-4.result c.from-3.result
-    c.self.invariant c.self.view_is c.requires c.from.ensures c.from-2.ensures c.from-3.ensures c.from-4.ensures
+    rest_from c.self.invariant c.self.view_is c.requires c.from.ensures c.from-2.ensures c.from-3.ensures c.from-4.ensures
 
 pub overflow_cast-rest : goal.overflow_cast-rest
 overflow_cast-rest c =
     omega (
       arith,
-      rest_to c.args.self.now c.self.inside.den (2 ^ c.self.inside.bits) c.self.inside.reciprocal c.self.inside.bits c.args.products c.from.result c.from-2.result c.from-4.result c.from-3.result
-          c.self.invariant c.self.view_is c.requires c.from.ensures c.from-2.ensures c.from-3.ensures c.from-4.ensures,
+      rest_to c.self.invariant c.self.view_is c.requires c.from.ensures c.from-2.ensures c.from-3.ensures c.from-4.ensures,
     )
 
 pub returns-then-rest-den-clause-quotient : goal.returns-then-rest-den-clause-quotient
 returns-then-rest-den-clause-quotient c =
-    sym c.from-3.ensures ∙ exact_quotient c.args.self.now c.self.inside.den (2 ^ c.self.inside.bits) c.self.inside.reciprocal c.self.inside.bits c.args.products c.from.result c.from-2.result c.from-4.result c.from-3.result
-    c.self.invariant c.self.view_is c.requires c.from.ensures c.from-2.ensures c.from-3.ensures c.from-4.ensures
+    sym c.from-3.ensures
+    ∙ exact_quotient c.self.invariant c.self.view_is c.requires c.from.ensures c.from-2.ensures c.from-3.ensures c.from-4.ensures
     c.if-rest-den.true
 
 pub returns-then-rest-den-clause-rest : goal.returns-then-rest-den-clause-rest
 returns-then-rest-den-clause-rest c =
-    exact_rest c.args.self.now c.self.inside.den (2 ^ c.self.inside.bits) c.self.inside.reciprocal c.self.inside.bits c.args.products c.from.result c.from-2.result c.from-4.result c.from-3.result
-    c.self.invariant c.self.view_is c.requires c.from.ensures c.from-2.ensures c.from-3.ensures c.from-4.ensures
+    exact_rest c.self.invariant c.self.view_is c.requires c.from.ensures c.from-2.ensures c.from-3.ensures c.from-4.ensures
     c.if-rest-den.true
 
 pub returns-else-rest-den-clause-quotient : goal.returns-else-rest-den-clause-quotient
 returns-else-rest-den-clause-quotient c =
-    ap (λ z. z + 1) (sym c.from-3.ensures) ∙ next_quotient c.args.self.now c.self.inside.den (2 ^ c.self.inside.bits) c.self.inside.reciprocal c.self.inside.bits c.args.products c.from.result c.from-2.result c.from-4.result c.from-3.result
-    c.self.invariant c.self.view_is c.requires c.from.ensures c.from-2.ensures c.from-3.ensures c.from-4.ensures
+    ap (λ z. z + 1) (sym c.from-3.ensures)
+    ∙ next_quotient c.self.invariant c.self.view_is c.requires c.from.ensures c.from-2.ensures c.from-3.ensures c.from-4.ensures
     c.if-rest-den.false
 
 pub returns-else-rest-den-clause-rest : goal.returns-else-rest-den-clause-rest
 returns-else-rest-den-clause-rest c =
-    next_rest c.args.self.now c.self.inside.den (2 ^ c.self.inside.bits) c.self.inside.reciprocal c.self.inside.bits c.args.products c.from.result c.from-2.result c.from-4.result c.from-3.result
-    c.self.invariant c.self.view_is c.requires c.from.ensures c.from-2.ensures c.from-3.ensures c.from-4.ensures
+    next_rest c.self.invariant c.self.view_is c.requires c.from.ensures c.from-2.ensures c.from-3.ensures c.from-4.ensures
     c.if-rest-den.false
