@@ -10,7 +10,7 @@ use crate::label_line::read_label_line;
 use std::alloc::Global;
 use text_lines::{LineIter, Name, ReadFault, next_filled};
 
-// The marks that these lines give to `n` states, or the first of their faults.
+/// The marks that these lines give to `n` states, or the first of their faults.
 pub(crate) fn read_marks(
     alloc: Global,
     mut rest: LineIter<'_>,

@@ -13,7 +13,7 @@ use crate::only::is_only;
 use std::alloc::{AllocError, Global};
 use text_lines::{FileWhat, Line, LineIter, Name, ReadFault, end_line, next_filled, words};
 
-// The names that the file of these bytes declares, and what is left of it after its closing line.
+/// The names that the file of these bytes declares, and what is left of it after its closing line.
 pub(crate) fn read_names(
     alloc: Global,
     bytes: &[u8],
@@ -34,7 +34,7 @@ pub(crate) fn read_names(
     Err(ReadFault::at(end_line(bytes), FileWhat::Header))
 }
 
-// Goes past the opening line.
+/// Goes past the opening line.
 pub(crate) fn take_opening(bytes: &[u8], rest: &mut LineIter<'_>) -> Result<(), ReadFault>
     requires { rest.old ≡ lines_of bytes.now }
     ensures { MatchResult result

@@ -9,14 +9,14 @@ ghost use Rattle.lab_reader.specs.Reading.{bytes_of, IsMaskOf, GivesMask};
 use crate::names::place_of;
 use text_lines::{FileWhat, Line, Name, WordIter, whole, words};
 
-// A state, numbered from 1, and the mask of labels that it is given: bit j for name j.
+/// A state, numbered from 1, and the mask of labels that it is given: bit j for name j.
 #[derive(Clone, Copy)]
 pub(crate) struct Marked {
     pub(crate) state: u64,
     pub(crate) mask: u64,
 }
 
-// What the line gives to which of `n` states, or the first check that it fails.
+/// What the line gives to which of `n` states, or the first check that it fails.
 pub(crate) fn read_label_line(names: &[Name], n: u32, line: &Line) -> Result<Marked, FileWhat>
     requires { AreNames names.now }
     ensures { let row = word_line (line_text line.now) in

@@ -6,14 +6,14 @@ ghost use Rattle.lab_reader.specs.LabFault.{NameFailsBy};
 use model_core::MOST_LABELS;
 use text_lines::{FileWhat, Name, is_name};
 
-// The place of a word among the names, None where it is none of them.
+/// The place of a word among the names, None where it is none of them.
 pub(crate) fn place_of(names: &[Name], word: &[u8]) -> Option<usize>
     ensures { MatchOption result (¬ Contains names.now word.now) (λ j. (j < length names.now) × (slice_index_or names.now j [] ≡ word.now)) }
 {
     names.iter().position(|name| name.bytes() == word)
 }
 
-// The first check that a word fails that is to be declared after these names, None where it fails none.
+/// The first check that a word fails that is to be declared after these names, None where it fails none.
 pub(crate) fn name_fault(names: &[Name], word: &[u8]) -> Option<FileWhat>
     ensures { MatchOption result (IsFreshName names.now word.now) (NameFailsBy names.now word.now) }
 {

@@ -6,7 +6,7 @@ ghost use Rattle.lab_reader.specs.Declarations.{IsOnly};
 
 use text_lines::{Line, words};
 
-// Whether the line has this one word.
+/// Whether the line has this one word.
 pub(crate) fn is_only(line: &Line, word: &[u8]) -> bool
     ensures { IsTrue result ↔ IsOnly word.now (word_line (line_text line.now)) }
 {

@@ -11,7 +11,7 @@ pub struct Rate {
     pub rate: u64,
 }
 
-// The number of a pair of states, which orders pairs by the state that is left, and then by the state that is reached.
+/// The number of a pair of states, which orders pairs by the state that is left, and then by the state that is reached.
 pub(crate) fn pair_number(from: u32, to: u32) -> u64
     ensures { result ≡ pair_number from to }
 {

@@ -29,7 +29,7 @@ impl Rew {
         Rew { scale, rewards }
     }
 
-    // The reward of a state.
+    /// The reward of a state.
     pub(crate) fn reward(&self, s: usize) -> u64
         requires { s < length self.now.rewards }
         ensures value { result ≡ slice_index self.now.rewards s }

@@ -3,6 +3,7 @@ use Rattle.std.specs.Prelude.{◌≡◌, ℕ, ◌<◌, ◌≤◌, ◌⊎◌, Lis
 use Rattle.std.specs.Map.{lookup}
 use Rattle.std.specs.declared.alloc.Global.{Global}
 use Rattle.outside.specs.declared.fault.TakeFault.{TakeFault}
+use Rattle.outside.specs.declared.files.TheConstants.{FILE_LIMIT}
 use Rattle.outside.specs.declared.fault.TakeFault.TheVariants.{Failed, TooBig, Memory}
 use Rattle.outside.specs.Causes.{one_more}
 
@@ -17,21 +18,17 @@ pairs_of files = map (λ file. (string_bytes file.0, file.1.items)) files
 abbrev pub file_named : List ℕ → List Pair → Option (List ℕ)
 file_named name pairs = lookup (λ key. bytes_eq key name) pairs
 
--- 64 MiB
-abbrev pub file_limit : ℕ
-file_limit = 67108864
-
 -- these are the bytes of the named file, where the files are told
 abbrev pub IsFile : List ℕ → Option (List Pair) → List ℕ → Type 0
 IsFile name files bytes = IfSome files (λ pairs. file_named name pairs ≡ Some bytes)
 
 -- the named file has more bytes than the limit, where the files are told
 abbrev pub IsTooBig : List ℕ → Option (List Pair) → Type 0
-IsTooBig name files = IfSome files (λ pairs. IsSomeAnd (file_named name pairs) (λ bytes. file_limit < length bytes))
+IsTooBig name files = IfSome files (λ pairs. IsSomeAnd (file_named name pairs) (λ bytes. FILE_LIMIT < length bytes))
 
 -- the bytes of the file that is there, `TooBig` where it has more than the limit, and neither where it isn't there
 abbrev pub Takes : List ℕ → Option (List Pair) → Result (Vec ℕ Global) TakeFault → Type 0
-Takes name files (Ok bytes) = IsFile name files bytes.items × (length bytes.items ≤ file_limit)
+Takes name files (Ok bytes) = IsFile name files bytes.items × (length bytes.items ≤ FILE_LIMIT)
 Takes name files (Err TooBig) = IsTooBig name files
 Takes name files (Err Failed) = Unit {0}
 Takes name files (Err Memory) = Unit {0}

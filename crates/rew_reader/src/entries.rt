@@ -11,8 +11,8 @@ use crate::entry::read_entry;
 use std::alloc::{AllocError, Global};
 use text_lines::{EntryLine, FileWhat, ReadFault, lines, next_filled};
 
-// The rewards of the lines, in their order, each of another state; or the first thing that is wrong with a line, the
-// scale aside.
+/// The rewards of the lines, in their order, each of another state; or the first thing that is wrong with a line, the
+/// scale aside.
 pub(crate) fn read_entries(
     alloc: Global,
     bytes: &[u8],

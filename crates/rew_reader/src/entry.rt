@@ -16,8 +16,8 @@ struct StateWord<'a> {
     reward: &'a [u8],
 }
 
-// The reward that the line writes for one of n states, which is kept by its number from 0; or what is wrong with the
-// line, whatever lines stand before it.
+/// The reward that the line writes for one of n states, which is kept by its number from 0; or what is wrong with the
+/// line, whatever lines stand before it.
 pub(crate) fn read_entry(line: Line<'_>, n: u32) -> Result<EntryLine<u32>, FileWhat>
     ensures entry { IfOk result (IsEntryLine (reward_lines n) state_number (row_of_line line.entry)) }
     ensures fault { IfErr result (FailsAnyway (reward_lines n) (row_of_line line.entry)) }

@@ -11,7 +11,7 @@ use model_core::AMOUNT_LIMIT;
 use std::alloc::{AllocError, Global};
 use text_lines::{EntryLine, value_at};
 
-// The place of the first entry whose reward is `2^63` or more at the scale.
+/// The place of the first entry whose reward is `2^63` or more at the scale.
 pub(crate) fn first_large(entries: &[EntryLine<u32>], scale: u32) -> Option<usize>
     requires decimals { All (λ e. e.decimals ≤ scale) entries.now }
     requires scale { scale ≤ 18 }
@@ -22,7 +22,7 @@ pub(crate) fn first_large(entries: &[EntryLine<u32>], scale: u32) -> Option<usiz
         .position(|entry| value_at(entry, scale) >= u128::from(AMOUNT_LIMIT))
 }
 
-// The reward of each of n states at the scale, 0 where it has no entry.
+/// The reward of each of n states at the scale, 0 where it has no entry.
 pub(crate) fn rewards_of(
     alloc: Global,
     entries: &[EntryLine<u32>],

@@ -20,3 +20,4 @@ pub mod SomeOutcomes
 pub mod SureObjects
 pub mod UniformRows
 pub mod Verdicts
+pub mod WorkedExample

@@ -1,8 +1,8 @@
 -- What a read of a list gives, and bounds of the sums of a mix.
-use Rattle.std.proofs.Common.{◌≡◌, ℕ, zero, suc, ◌+◌, ◌*◌, ◌/◌, ◌^◌, ◌≤◌, ◌<◌, List, [], ◌∷◌, ◌++◌, take, drop, length, map, get_or, sym, ap, subst, ◌∙◌, arith, add-one}
+use Rattle.std.proofs.Common.{◌≡◌, ℕ, zero, suc, ◌+◌, ◌*◌, ◌/◌, ◌^◌, ◌≤◌, ◌<◌, List, [], ◌∷◌, ◌++◌, All, take, drop, length, map, get_or, sym, ap, subst, ◌∙◌, arith, add-one}
 use Rattle.std.proofs.Math.Seq.{take-append_seam}
 use Rattle.std.proofs.lemmas.Nat.{le-div, mul-le}
-use Rattle.std.proofs.lemmas.List.FromFn.{map-range_with_len_more, get_or-map-range_with_len}
+use Rattle.std.proofs.lemmas.List.FromFn.{map-range_with_len_more, get_or-map-range_with_len, length-map-range_with_len}
 use Rattle.std.proofs.lemmas.List.{get_or-map, get_or_default, length-map}
 use Rattle.std.specs.Int.{div_ceil}
 use Rattle.ctmc_semantics.specs.RoundedTables.{one_word}
@@ -185,19 +185,21 @@ brackets_more last bits s weights tables brackets b so_far e f =
     ∙ ap (λ a. first_mixes last bits weights tables s ++ a ∷ []) (bracket_same b _ _ e f)
     ∙ sym (map-range_with_len_more (column_mixes last bits weights tables) 0 s s (omega arith))
 
--- ---- what is read of the brackets
-pub read_mixes : (last bits n s : ℕ) (weights : WeightLists) (tables : TableLists) (brackets : List Bracket) (b : Bracket)
-    → brackets ≡ first_mixes last bits weights tables n → s < n → b ≡ get_or brackets s b → b ≡ column_mixes last bits weights tables s
-read_mixes last bits n s weights tables brackets b e inside read =
-    read ∙ ap (λ z. get_or z s b) e ∙ get_or-map-range_with_len (column_mixes last bits weights tables) 0 n s s b inside (omega arith)
+-- ---- the brackets are words
+module _ (last bits n : ℕ) (weights : WeightLists) (tables : TableLists) (brackets : List Bracket) (are : brackets ≡ first_mixes last bits weights tables n) where
+  pub mixes_counted : length brackets ≡ n
+  mixes_counted = ap length are ∙ length-map-range_with_len (column_mixes last bits weights tables) 0 n
 
-pub lower_mix_le : (last bits n s : ℕ) (weights : WeightLists) (tables : TableLists) (b : Bracket) → AreSoundWeights last weights → IsWordTable last n tables.low
-    → s < n → b ≡ column_mixes last bits weights tables s → b.lower ≤ 2 ^ 62
-lower_mix_le last bits n s weights tables b sound is inside e =
-    rw e (lower_le last weights sound (column tables.low s) (λ k l. is.at_most_one k s l inside))
+  pub mix_read : (s : ℕ) (d : Bracket) → s < n → get_or brackets s d ≡ column_mixes last bits weights tables s
+  mix_read s d inside = ap (λ z. get_or z s d) are ∙ get_or-map-range_with_len (column_mixes last bits weights tables) 0 n s s d inside (omega arith)
 
-pub upper_mix_le : (last bits s : ℕ) (weights : WeightLists) (tables : TableLists) (b : Bracket) → b ≡ column_mixes last bits weights tables s → b.upper ≤ 2 ^ 62
-upper_mix_le last bits s weights tables b e = omega (arith, ap (λ m. m.upper) e)
+  pub lower_words : AreSoundWeights last weights → IsWordTable last n tables.low → All (λ b. b.lower ≤ 2 ^ 62) brackets
+  lower_words sound is = λ s d l.
+      let inside : s < n = omega (arith, l, mixes_counted) in
+      rw (mix_read s d inside) (lower_le last weights sound (column tables.low s) (λ k m. is.at_most_one k s m inside))
+
+  pub upper_words : All (λ b. b.upper ≤ 2 ^ 62) brackets
+  upper_words = λ s d l. omega (arith, ap (λ m. m.upper) (mix_read s d (omega (arith, l, mixes_counted))))
 
 -- ---- equal numbers
 pub positive : (a b : ℕ) → a ≡ b → 0 < b → 0 < a

@@ -1,7 +1,8 @@
 -- A file has one reading: it stands for one value or has one fault.
-use Rattle.std.proofs.Common.{◌≡◌, ℕ, ◌<◌, ◌≤◌, ◌⊎◌, List, length, Option, None, Some, IsSome, IsSomeAnd, inl, inr, refl, sym, ◌∙◌, subst, arith}
+use Rattle.std.proofs.Common.{◌≡◌, ℕ, ◌<◌, ◌≤◌, ◌⊎◌, List, length, Some, IsSomeAnd, inl, inr, refl, sym, ◌∙◌, subst, arith}
 use Rattle.std.proofs.lemmas.Bool.{cases_lt}
-use Rattle.outside.specs.Shelf.{Pair, IsFile, IsTooBig, file_limit}
+use Rattle.outside.specs.Shelf.{Pair, IsFile, IsTooBig}
+use Rattle.outside.specs.declared.files.TheConstants.{FILE_LIMIT}
 use Rattle.text_lines.specs.declared.fault.FileWhat.{FileWhat}
 use Rattle.text_lines.specs.declared.fault.FileWhat.TheVariants.{TooBig}
 use Rattle.text_lines.proofs.FileReadings as reading
@@ -15,9 +16,9 @@ module _ (pairs : List Pair) (name : List ℕ) where
   same_bytes : (a b : List ℕ) → IsFile name (Some pairs) a → IsFile name (Some pairs) b → b ≡ a
   same_bytes a b p q = some_same b a (sym q ∙ p)
 
-  not_too_big : (a : List ℕ) → IsFile name (Some pairs) a → length a ≤ file_limit → IsTooBig name (Some pairs) → ⊥
+  not_too_big : (a : List ℕ) → IsFile name (Some pairs) a → length a ≤ FILE_LIMIT → IsTooBig name (Some pairs) → ⊥
   not_too_big a p w big =
-      let long : file_limit < length a = subst (λ o. IsSomeAnd o (λ bytes. file_limit < length bytes)) p big in
+      let long : FILE_LIMIT < length a = subst (λ o. IsSomeAnd o (λ bytes. FILE_LIMIT < length bytes)) p big in
       omega (arith, w, long)
 
   module _ {A : Type 0} (Says : List ℕ → A → Type 0) (FaultAt : List ℕ → ℕ → FileWhat → Type 0) (is : (text : List ℕ) → HasReading (Says text) (FaultAt text)) where
@@ -33,7 +34,7 @@ module _ (pairs : List Pair) (name : List ℕ) where
         (subst (λ t. FaultAt t line what) (same_bytes p.bytes q.bytes p.is_file q.is_file) q.is_so)
 
     -- the file that is there, by what is read of its bytes
-    of_bytes : (bytes : List ℕ) → IsFile name (Some pairs) bytes → length bytes ≤ file_limit
+    of_bytes : (bytes : List ℕ) → IsFile name (Some pairs) bytes → length bytes ≤ FILE_LIMIT
         → ((a : A) × Says bytes a) ⊎ ((k : ℕ) × (v : FileWhat) × FaultAt bytes k v)
         → ((a : A) × TakesText name (Some pairs) (λ b. Says b a)) ⊎ ((k : ℕ) × (v : FileWhat) × IsFaulty name (Some pairs) FaultAt k v)
     of_bytes bytes here within (inl a) = inl (a.0, record { bytes = bytes; is_file = here; within = within; is_so = a.1 })
@@ -42,12 +43,12 @@ module _ (pairs : List Pair) (name : List ℕ) where
     pub file_reading : (bytes : List ℕ) → IsFile name (Some pairs) bytes
         → ((a : A) × TakesText name (Some pairs) (λ b. Says b a)) ⊎ ((k : ℕ) × (v : FileWhat) × IsFaulty name (Some pairs) FaultAt k v)
     file_reading bytes here =
-        elim (cases_lt file_limit (length bytes)) [
+        elim (cases_lt FILE_LIMIT (length bytes)) [
           | inl long ↦ inr (
             0,
             TooBig,
             inl (record {
-              too_big = subst (λ o. IsSomeAnd o (λ b. file_limit < length b)) (sym here) long;
+              too_big = subst (λ o. IsSomeAnd o (λ b. FILE_LIMIT < length b)) (sym here) long;
               at_no_line = refl;
               told = refl;
             }),

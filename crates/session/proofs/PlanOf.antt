@@ -18,6 +18,7 @@ use Rattle.step_core.specs.SoundFrame.{IsSoundRow, IsSoundFrame}
 use Rattle.step_core.specs.SoundPlan.{AreSoundWeights, IsSoundPlan}
 use Rattle.step_core.specs.WeightLists.{WeightLists}
 use Rattle.step_core.specs.declared.mix.Mix.TheVariants.{Poisson}
+use Rattle.poisson_tail.specs.declared.layers.TheConstants.{MOST_LAYERS}
 use Rattle.session.specs.ExactAnswer.{until_bits}
 use Rattle.session.specs.UntilPlan.{IsUntilPlan}
 
@@ -25,7 +26,7 @@ use Rattle.session.specs.UntilPlan.{IsUntilPlan}
 module _ (chain : Chain) (load : Fraction) (goal : ℕ → Bool) (n last : ℕ) (rows : List RowLists) (weights : WeightLists)
     (some : 1 ≤ n) (few : n ≤ 65536) (states : length rows ≡ n) (is_chain : chain.states ≡ n)
     (sound : All (IsSoundRow n) rows) (stand : StandFor rows (uniformised chain))
-    (is_last : last ≡ horizon load until_bits) (few_layers : last ≤ 16384) (positive : 0 < load.den)
+    (is_last : last ≡ horizon load until_bits) (few_layers : last ≤ MOST_LAYERS) (positive : 0 < load.den)
     (of_load : AreWeightsOf load last weights) (sound_weights : AreSoundWeights last weights) where
   abbrev goal_list : List Bool
   goal_list = map goal (range_with_len 0 n)

@@ -1,12 +1,14 @@
 -- The mixes of a plan's tables are the words of the until.
-use Rattle.std.proofs.Common.{◌≡◌, ℕ, ◌<◌, ◌≤◌, Bool, true, cond, sym, ap, ◌∙◌, length, arith}
+use Rattle.std.proofs.Common.{◌≡◌, ℕ, ◌<◌, ◌≤◌, Bool, List, true, cond, sym, ap, ◌∙◌, length, arith}
 use Rattle.std.specs.Prelude.{slice_index}
+use Rattle.std.proofs.lemmas.List.FromFn.{fill_by_all, get_or-map-range_with_len, length-map-range_with_len}
 use Rattle.ctmc_semantics.specs.Chain.{Chain}
 use Rattle.ctmc_semantics.specs.Fraction.{Fraction}
 use Rattle.ctmc_semantics.specs.Mix.{mix_low, mix_high}
 use Rattle.ctmc_semantics.specs.RoundedTables.{one_word, set_words, low_table, high_table}
 use Rattle.ctmc_semantics.specs.Rows.{rows_of}
 use Rattle.ctmc_semantics.specs.Sets.{holds_at, known_exactly}
+use Rattle.ctmc_semantics.specs.Threshold.{Comparison}
 use Rattle.ctmc_semantics.specs.Uniformised.{uniform_rate, uniformised}
 use Rattle.ctmc_semantics.specs.Weights.{low_weight, high_weight}
 use Rattle.ctmc_semantics.specs.WordBracket.{settle, until_words}
@@ -19,8 +21,9 @@ use Rattle.step_core.specs.FrameRows.{frame_rows}
 use Rattle.step_core.specs.SoundPlan.{starts_at_one}
 use Rattle.step_core.specs.TableLists.{TableLists}
 use Rattle.step_core.specs.declared.bracket.Bracket.{Bracket}
-use Rattle.session.specs.MixColumns.{column_mixes}
-use Rattle.session.specs.UntilAnswer.{state_words}
+use Rattle.session.specs.MixColumns.{column_mixes, AreMixesOf}
+use Rattle.session.specs.UntilAnswer.{state_words, words_answer, first_answers, until_answers, mix_at, settled_words, settled_answers}
+use Rattle.session.proofs.Mixes.{mix_read}
 use Rattle.session.specs.ExactAnswer.{until_bits}
 use Rattle.ctmc_semantics.specs.Sets.{every_state}
 use Rattle.session.specs.UntilPlan.{IsUntilPlan}
@@ -79,11 +82,44 @@ module _ (chain : Chain) (load : Fraction) (goal : ℕ → Bool) (plan : PlanLis
   same_weights : (weights other : WeightLists) (m n : ℕ) → Poisson weights m ≡ Poisson other n → weights ≡ other
   same_weights weights other m n e = cc
 
-  pub settled_words : (weights : WeightLists) (bits : ℕ) → plan.mix ≡ Poisson weights bits → (b : Bracket) → b ≡ column_mixes plan.layers until_bits weights tables s
+  same_bits : (weights other : WeightLists) (m n : ℕ) → Poisson weights m ≡ Poisson other n → m ≡ n
+  same_bits weights other m n e = cc
+
+  pub words_are : (weights : WeightLists) (bits : ℕ) → plan.mix ≡ Poisson weights bits → (b : Bracket) → b ≡ column_mixes plan.layers bits weights tables s
       → settle (goal s) true (record { lower = b.lower; upper = b.upper }) ≡ state_words chain load goal s
-  settled_words weights bits mix b e =
-      let same : weights ≡ is.weights = same_weights weights is.weights bits until_bits (sym mix ∙ is.is_mix) in
-      let mixed : b ≡ column_mixes plan.layers until_bits is.weights tables s = e ∙ ap (λ w. column_mixes plan.layers until_bits w tables s) same in
+  words_are weights bits mix b e =
+      let weights_are : weights ≡ is.weights = same_weights weights is.weights bits until_bits (sym mix ∙ is.is_mix) in
+      let bits_are : bits ≡ until_bits = same_bits weights is.weights bits until_bits (sym mix ∙ is.is_mix) in
+      let mixed : b ≡ column_mixes plan.layers until_bits is.weights tables s =
+      e ∙ ap (λ w. column_mixes plan.layers bits w tables s) weights_are ∙ ap (λ n. column_mixes plan.layers n is.weights tables s) bits_are in
       ap (λ l. settle (goal s) true (record { lower = l; upper = b.upper })) (ap (λ m. m.lower) mixed ∙ lower_mix)
       ∙ ap (λ u. settle (goal s) true (record { lower = (until_words (rows_of (uniformised chain)) load until_bits (known_exactly every_state goal) s).lower; upper = u }))
       (ap (λ m. m.upper) mixed ∙ upper_mix)
+
+-- ---- the answers from the plan's goal and its mixes are those of the until
+module _ (chain : Chain) (load : Fraction) (goal : ℕ → Bool) (plan : PlanLists) (is : IsUntilPlan chain load goal plan)
+    (mixes : List Bracket) (are : AreMixesOf plan mixes) where
+  abbrev goals : List Bool
+  goals = plan.frame.sets.goal_must
+
+  rows_counted : length plan.frame.rows ≡ chain.states
+  rows_counted = is.rows.same_states
+
+  goals_counted : length goals ≡ chain.states
+  goals_counted = is.sound.frame.sets.goal_must_states ∙ rows_counted
+
+  same_words : (s : ℕ) → s < chain.states → settled_words goals mixes s ≡ state_words chain load goal s
+  same_words s inside =
+      ap (λ g. settle g true (mix_at mixes s)) (is.goal_must s inside)
+      ∙ words_are chain load goal plan are.tables is are.of_plan s inside are.weights are.bits are.is_mix _
+      (mix_read plan.layers are.bits (length plan.frame.rows) are.weights are.tables mixes are.are s _ (omega (arith, inside, rows_counted)))
+
+  pub settled_answers_are : (by : Comparison) (q : Fraction) → settled_answers goals mixes by q ≡ until_answers chain load goal by q
+  settled_answers_are by q =
+      let some_answer = words_answer by (state_words chain load goal 0) q in
+      ap (first_answers (settled_words goals mixes) by q) goals_counted
+      ∙ fill_by_all (λ s. words_answer by (state_words chain load goal s) q) (first_answers (settled_words goals mixes) by q chain.states) chain.states
+      some_answer (length-map-range_with_len (λ s. words_answer by (settled_words goals mixes s) q) 0 chain.states)
+      (λ s inside.
+      get_or-map-range_with_len (λ t. words_answer by (settled_words goals mixes t) q) 0 chain.states s s some_answer inside (omega arith)
+      ∙ ap (λ w. words_answer by w q) (same_words s inside))

@@ -33,7 +33,9 @@ use Rattle.session.specs.declared.plain_formula.PlainFormula.TheVariants.{Next, 
 use Rattle.session.specs.declared.report.StateAnswer.{StateAnswer}
 use Rattle.session.specs.declared.uniformise.Refusal.{Refusal}
 use Rattle.session.specs.declared.uniformise.Refusal.TheVariants.{TooLong, TooLarge}
-use Rattle.session.specs.UntilPlan.{until_refusal, plan_refusal, most_jumps, most_words}
+use Rattle.session.specs.UntilPlan.{until_refusal, plan_refusal}
+use Rattle.session.specs.declared.uniformise.TheConstants.{MOST_WORDS}
+use Rattle.poisson_tail.specs.declared.layers.TheConstants.{MOST_LAYERS}
 use Rattle.session.specs.declared.reading.Reply.{Reply}
 use Rattle.session.specs.declared.reading.Stop.{Stop}
 use Rattle.session.specs.declared.status.Part.TheVariants.{Formula}
@@ -135,7 +137,7 @@ next_exact_at chain goal comparison q s states e l =
     (next_answer_exact comparison p q (omega arith))
 
 until_exact_at : (chain : Chain) (load : Fraction) (goal : ℕ → Bool) (comparison : Comparison) (q : Fraction) (s : ℕ) (states : List StateAnswer)
-    → 0 < load.den → 0 < q.den → horizon load until_bits ≤ 16384
+    → 0 < load.den → 0 < q.den → horizon load until_bits ≤ MOST_LAYERS
     → states ≡ until_answers chain load goal comparison q → s < chain.states
     → IsSomeAnd (slice_get states s) (IsExactUntil comparison (horizon load until_bits) until_bits (until_of chain load goal s) q)
 until_exact_at chain load goal comparison q s states positive threshold few e l =
@@ -162,13 +164,13 @@ some_not_none : (r : Refusal) → Some r ≡ None → ⊥
 some_not_none r e = cc
 
 -- a plan that isn't refused has few layers
-few_layers : (last states : ℕ) → plan_refusal last states ≡ None → last ≤ 16384
-few_layers last states e = by_test (nat_lt most_jumps last) refl e
+few_layers : (last states : ℕ) → plan_refusal last states ≡ None → last ≤ MOST_LAYERS
+few_layers last states e = by_test (nat_lt MOST_LAYERS last) refl e
   where
-    by_test : (long : Bool) → nat_lt most_jumps last ≡ long
-        → (if long then Some TooLong else (if nat_lt most_words (suc last * states) then Some TooLarge else None)) ≡ None → last ≤ 16384
+    by_test : (long : Bool) → nat_lt MOST_LAYERS last ≡ long
+        → (if long then Some TooLong else (if nat_lt MOST_WORDS (suc last * states) then Some TooLarge else None)) ≡ None → last ≤ MOST_LAYERS
     by_test true is e = absurd (some_not_none TooLong e)
-    by_test false is e = omega (arith, ltb-false most_jumps last is)
+    by_test false is e = omega (arith, ltb-false MOST_LAYERS last is)
 
 power_of_ten : (k : ℕ) → 0 < 10 ^ k
 power_of_ten k = omega (arith, power_le 10 0 k (omega arith) (omega arith))

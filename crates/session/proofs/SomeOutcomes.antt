@@ -1,25 +1,24 @@
 -- Words, files that are there, and formulas have an outcome.
-use Rattle.std.proofs.Common.{◌≡◌, ℕ, zero, suc, ◌+◌, ◌<◌, ◌≤◌, ◌⊎◌, inl, inr, Bool, true, false, List, [], ◌++◌, length, take, drop, Option, Some, None, IsSome, IfSome, refl, sym, subst, arith, append-nil, length-take-le}
+use Rattle.std.proofs.Common.{◌≡◌, ℕ, ◌+◌, ◌<◌, ◌≤◌, ◌⊎◌, inl, inr, List, [], length, take, drop, Option, Some, None, IsSome, IfSome, refl, sym, subst, arith, append-nil, length-take-le}
 use Rattle.std.proofs.lemmas.List.{take-append-drop}
 use Rattle.std.proofs.lemmas.Bool.{cases_lt, false≢true}
 use Rattle.outside.specs.Shelf.{Pair, file_named}
-use Rattle.model_core.specs.Files.{TraLists, LabLists, RewLists}
+use Rattle.model_core.specs.Files.{TraLists, LabLists}
 use Rattle.lab_reader.specs.LabFault.{LabFaultAt}
 use Rattle.lab_reader.specs.LabText.{LabSays}
 use Rattle.rew_reader.specs.RewFault.{RewFaultAt}
 use Rattle.rew_reader.specs.RewText.{RewSays}
 use Rattle.tra_reader.specs.TraFault.{TraFaultAt}
 use Rattle.tra_reader.specs.TraText.{TraSays}
-use Rattle.text_lines.specs.declared.fault.FileWhat.{FileWhat}
 use Rattle.session.specs.Command.{FileNames}
 use Rattle.session.specs.FormulaAnswer.{FormulaAnswer, Answers, Refuses, formula_answer}
-use Rattle.session.specs.Outcome.{Outcome, Usage, Faulty, NotBuilt, Refused, Answered, IsOutcomeOf, TakesTra, TakesLab, TakesRew, TakesModel, TakesFormula, IsLabFaulty, IsRewFaulty, IsTraFaulty, formulas_limit, model_of, name_at}
+use Rattle.session.specs.Outcome.{Outcome, Usage, Faulty, NotBuilt, Refused, Answered, IsOutcomeOf, TakesTra, TakesLab, TakesRew, TakesModel, TakesFormula, IsRewFaulty, model_of, name_at}
 use Rattle.session.specs.PlainFormula.{formula_text}
 use Rattle.session.specs.Serve.{AreThere}
+use Rattle.session.specs.declared.reading.TheConstants.{FORMULAS_LIMIT}
 use Rattle.session.specs.declared.plain_formula.PlainFormula.{PlainFormula}
 use Rattle.session.specs.declared.status.ModelFault.{ModelFault}
 use Rattle.session.specs.declared.status.Part.TheVariants.{Formula}
-use Rattle.session.specs.declared.status.Which.{Which}
 use Rattle.session.specs.declared.status.Which.TheVariants as which
 use Rattle.lab_reader.proofs.Readings.{lab_reading}
 use Rattle.rew_reader.proofs.Readings.{rew_reading}
@@ -62,7 +61,7 @@ module _ (pairs : List Pair) (left : List ℕ) (names : FileNames) where
       is = record { model = model; refuses = record { label = label; formula = f; takes = takes; is_refusal = e } };
     }
 
-    whole : length left ≤ formulas_limit → NamedBelow model.lab.names left (length model.lab.names)
+    whole : length left ≤ FORMULAS_LIMIT → NamedBelow model.lab.names left (length model.lab.names)
         ⊎ (¬ NamedBelow model.lab.names left (length model.lab.names)) → Found
     whole few (inl n) =
         answered n.label n.formula
@@ -83,23 +82,23 @@ module _ (pairs : List Pair) (left : List ℕ) (names : FileNames) where
       };
     }
 
-    too_much : formulas_limit < length left → Found
+    too_much : FORMULAS_LIMIT < length left → Found
     too_much many = record {
       outcome = NotBuilt Formula;
-      now = Some (drop (formulas_limit + 1) left);
+      now = Some (drop (FORMULAS_LIMIT + 1) left);
       is = record {
         model = model;
         other = inl (record {
-          bytes = take (formulas_limit + 1) left;
-          taken = sym (take-append-drop (formulas_limit + 1) left);
-          long = omega (arith, length-take-le (formulas_limit + 1) left (omega (arith, many)));
+          bytes = take (FORMULAS_LIMIT + 1) left;
+          taken = sym (take-append-drop (FORMULAS_LIMIT + 1) left);
+          long = omega (arith, length-take-le (FORMULAS_LIMIT + 1) left (omega (arith, many)));
         });
       };
     }
 
     formulas : Found
     formulas =
-        elim (cases_lt formulas_limit (length left)) [
+        elim (cases_lt FORMULAS_LIMIT (length left)) [
           | inl many ↦ too_much many
           | inr few ↦ whole few (named_or_not model.lab.names left (length model.lab.names))
         ]

@@ -1,5 +1,5 @@
 -- Objects that never fail, and hold the named files, raise no count of faults.
-use Rattle.std.proofs.Common.{◌≡◌, ℕ, zero, suc, ◌+◌, ◌-◌, ◌^◌, ◌≤◌, List, [], ◌∷◌, ◌++◌, Option, Some, None, IfSome, IsSome, take, min, inl, inr, arith, subst, sym, refl}
+use Rattle.std.proofs.Common.{◌≡◌, ℕ, zero, suc, ◌-◌, ◌^◌, List, [], ◌∷◌, ◌++◌, Option, Some, None, IfSome, IsSome, take, min, inl, inr, arith, subst, sym, refl}
 use Rattle.std.proofs.lemmas.Grind.{common_steps}
 use Rattle.outside.specs.Causes.{Rose}
 use Rattle.outside.specs.Shelf.{Pair, file_named, missing_count}
@@ -58,3 +58,16 @@ memory_or (NotBuilt part) P Q r w f p = f p
 memory_or (Outside Read) P Q r w f p = r refl
 memory_or (Outside Write) P Q r w f p = w refl
 memory_or Memory P Q r w f p = tt
+
+-- ---- what is so unless memory ran out
+pub memory_or_then : (s : Status) (P Q : Type 0) → (P → Q) → IsMemoryOr s P → IsMemoryOr s Q
+memory_or_then Memory P Q f h = h
+memory_or_then (Outside fault) P Q f h = h
+memory_or_then Done P Q f h = f h
+memory_or_then Refused P Q f h = f h
+memory_or_then Usage P Q f h = f h
+memory_or_then (Model fault) P Q f h = f h
+memory_or_then (NotBuilt part) P Q f h = f h
+
+pub unless_memory : (s : Status) (P : Type 0) → s ≡ Done → IsMemoryOr s P → P
+unless_memory s P e h = subst (λ t. IsMemoryOr t P) e h

@@ -17,8 +17,9 @@ use Rattle.ctmc_semantics.proofs.JumpsRise.{jump_value_rises}
 use Rattle.ctmc_semantics.proofs.NarrowBracket.{settled_bracket_narrow}
 use Rattle.ctmc_semantics.proofs.Settled.{settled_contains}
 use Rattle.ctmc_semantics.proofs.UniformLemmas.{uniformised_stochastic, weights_rows}
+use Rattle.poisson_tail.specs.declared.layers.TheConstants.{MOST_LAYERS}
 use Rattle.session.specs.ExactAnswer.{IsExactUntil, until_bits, until_of}
-use Rattle.session.specs.UntilAnswer.{state_words, words_answer, first_until_answers}
+use Rattle.session.specs.UntilAnswer.{state_words, words_answer, first_answers}
 use Rattle.session.specs.declared.report.StateAnswer.{StateAnswer}
 use Rattle.session.proofs.ExactAnswers.{words_exact}
 
@@ -35,7 +36,7 @@ state_words_contain chain load goal s positive inside =
     (record { live_has = λ t h. h; live_fits = λ t h. h; goal_has = λ t h. h; goal_fits = λ t h. h })
     (record { goal_in = λ t l h. refl; back = λ t u l m h p r. refl })
 
-pub state_words_narrow : (chain : Chain) (load : Fraction) (goal : ℕ → Bool) (s : ℕ) → 0 < load.den → horizon load until_bits ≤ 16384 → s < chain.states
+pub state_words_narrow : (chain : Chain) (load : Fraction) (goal : ℕ → Bool) (s : ℕ) → 0 < load.den → horizon load until_bits ≤ MOST_LAYERS → s < chain.states
     → (state_words chain load goal s).upper ≤ (state_words chain load goal s).lower + greatest_width (horizon load until_bits) until_bits
 state_words_narrow chain load goal s positive few inside =
     let j : Jumps = uniformised chain in
@@ -43,7 +44,7 @@ state_words_narrow chain load goal s positive few inside =
     (uniformised_stochastic chain) (some_rate chain) positive (omega arith) few inside
 
 pub until_exact : (by : Comparison) (chain : Chain) (load : Fraction) (goal : ℕ → Bool) (q : Fraction) (s : ℕ) → 0 < load.den → 0 < q.den
-    → horizon load until_bits ≤ 16384 → s < chain.states
+    → horizon load until_bits ≤ MOST_LAYERS → s < chain.states
     → IsExactUntil by (horizon load until_bits) until_bits (until_of chain load goal s) q (words_answer by (state_words chain load goal s) q)
 until_exact by chain load goal q s positive threshold few inside =
     let j : Jumps = uniformised chain in
@@ -53,10 +54,10 @@ until_exact by chain load goal q s positive threshold few inside =
     (state_words_contain chain load goal s positive inside) (state_words_narrow chain load goal s positive few inside)
 
 -- ---- one answer more
-pub until_more : (chain : Chain) (load : Fraction) (goal : ℕ → Bool) (by : Comparison) (q : Fraction) (s : ℕ) (answers : List StateAnswer) (answer : StateAnswer) (w : WordBracket)
-    → answers ≡ first_until_answers chain load goal by q s → w ≡ state_words chain load goal s → answer ≡ words_answer by w q
-    → answers ++ answer ∷ [] ≡ first_until_answers chain load goal by q (s + 1)
-until_more chain load goal by q s answers answer w so_far is here =
+pub answers_more : (words : ℕ → WordBracket) (by : Comparison) (q : Fraction) (s : ℕ) (answers : List StateAnswer) (answer : StateAnswer) (w : WordBracket)
+    → answers ≡ first_answers words by q s → w ≡ words s → answer ≡ words_answer by w q
+    → answers ++ answer ∷ [] ≡ first_answers words by q (s + 1)
+answers_more words by q s answers answer w so_far is here =
     ap (λ l. l ++ answer ∷ []) so_far
-    ∙ ap (λ a. first_until_answers chain load goal by q s ++ a ∷ []) (here ∙ ap (λ v. words_answer by v q) is)
-    ∙ sym (map-range_with_len_more (λ t. words_answer by (state_words chain load goal t) q) 0 s s (omega arith))
+    ∙ ap (λ a. first_answers words by q s ++ a ∷ []) (here ∙ ap (λ v. words_answer by v q) is)
+    ∙ sym (map-range_with_len_more (λ t. words_answer by (words t) q) 0 s s (omega arith))

@@ -1,5 +1,5 @@
 -- The ends of a bracket over one divisor, as the code keeps them.
-use Rattle.std.specs.Prelude.{ℕ, ◌<◌, ◌≤◌, ◌^◌}
+use Rattle.std.specs.Prelude.{◌<◌, ◌≤◌, ◌^◌}
 use Rattle.ctmc_semantics.specs.Bracket.{Bracket}
 use Rattle.ctmc_semantics.specs.Fraction.{fraction}
 use Rattle.session.specs.declared.nested_verdict.Ends.{Ends}

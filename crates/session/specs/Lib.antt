@@ -17,3 +17,4 @@ pub mod Serve
 pub mod UniformisedRow
 pub mod UntilAnswer
 pub mod UntilPlan
+pub mod WorkedExample

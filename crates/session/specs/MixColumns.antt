@@ -5,10 +5,13 @@ use Rattle.std.specs.List.{range_with_len}
 use Rattle.ctmc_semantics.specs.Mix.{mix_low, mix_high}
 use Rattle.ctmc_semantics.specs.RoundedTables.{one_word}
 use Rattle.ctmc_semantics.specs.Sum.{sum_below}
-use Rattle.step_core.specs.PlanTables.{layer_at}
+use Rattle.step_core.specs.PlanLists.{PlanLists}
+use Rattle.step_core.specs.PlanTables.{AreTablesOf, layer_at}
 use Rattle.step_core.specs.TableLists.{TableLists}
 use Rattle.step_core.specs.WeightLists.{WeightLists}
 use Rattle.step_core.specs.declared.bracket.Bracket.{Bracket}
+use Rattle.step_core.specs.declared.mix.Mix.{Mix}
+use Rattle.step_core.specs.declared.mix.Mix.TheVariants.{Poisson, Last}
 use Rattle.session.specs.declared.mix_columns.WeightSums.{WeightSums}
 
 -- the state's word after each number of jumps
@@ -49,3 +52,17 @@ column_mixes last bits weights tables s = record {
 -- the brackets of the first n states, in their order
 abbrev pub first_mixes : ℕ → ℕ → WeightLists → TableLists → ℕ → List Bracket
 first_mixes last bits weights tables n = map (column_mixes last bits weights tables) (range_with_len 0 n)
+
+-- the tables are mixed by weights: the plan is that of a bounded until
+abbrev pub IsBounded : Mix → Type 0
+IsBounded (Poisson weights bits) = Unit {0}
+IsBounded Last = ⊥
+
+-- for each state the mix of its columns in the plan's tables, by the plan's weights
+pub record AreMixesOf (plan : PlanLists) (mixes : List Bracket) : Type 0 where
+  pub weights : WeightLists
+  pub bits : ℕ
+  pub is_mix : plan.mix ≡ Poisson weights bits
+  pub tables : TableLists
+  pub of_plan : AreTablesOf plan tables
+  pub are : mixes ≡ first_mixes plan.layers bits weights tables (length plan.frame.rows)

@@ -1,13 +1,15 @@
 -- What is answered to the words, the files and the formulas.
 use Rattle.std.specs.Prelude.{◌≡◌, ℕ, ◌+◌, ◌<◌, ◌≤◌, ◌⊎◌, List, [], ◌∷◌, ◌++◌, length, codes, Option, Some, None, IsNone, IsSomeAnd, slice_index_or}
 use Rattle.std.specs.Io.KnownBytes.{Consumes, Keeps, IsAtEnd}
-use Rattle.outside.specs.Shelf.{Pair, IsFile, IsTooBig, file_limit}
+use Rattle.outside.specs.Shelf.{Pair, IsFile, IsTooBig}
+use Rattle.outside.specs.declared.files.TheConstants.{FILE_LIMIT}
 use Rattle.model_core.specs.Files.{TraLists, LabLists, RewLists}
 use Rattle.model_core.specs.Model.{LabelledChain, files_chain}
 use Rattle.session.specs.Command.{FileNames, command_of}
 use Rattle.session.specs.FormulaAnswer.{Answers, Refuses, formula_answer}
 use Rattle.session.specs.PlainFormula.{IsPlainFormula, formula_text}
 use Rattle.session.specs.Report.{answer_text}
+use Rattle.session.specs.declared.reading.TheConstants.{FORMULAS_LIMIT}
 use Rattle.session.specs.declared.plain_formula.PlainFormula.{PlainFormula}
 use Rattle.session.specs.declared.status.Part.{Part}
 use Rattle.session.specs.declared.status.ModelFault.{ModelFault}
@@ -28,10 +30,6 @@ use Rattle.session.specs.declared.report.StateAnswer.{StateAnswer}
 use Rattle.session.specs.declared.uniformise.Refusal.{Refusal}
 use Rattle.session.specs.declared.uniformise.Refusal.TheVariants.{TooLong, TooLarge}
 
--- 1 MiB
-abbrev pub formulas_limit : ℕ
-formulas_limit = 1048576
-
 -- what is said: the usage, what is wrong with a file, that a part isn't built, why the formula is refused, or its text, horizon and answers
 pub data Outcome : Type 0 where
   Usage : Outcome
@@ -44,7 +42,7 @@ pub data Outcome : Type 0 where
 pub record TakesText (name : List ℕ) (files : Option (List Pair)) (IsSo : List ℕ → Type 0) : Type 0 where
   pub bytes : List ℕ
   pub is_file : IsFile name files bytes
-  pub within : length bytes ≤ file_limit
+  pub within : length bytes ≤ FILE_LIMIT
   pub is_so : IsSo bytes
 
 -- the file stands for this chain
@@ -125,7 +123,7 @@ name_at names label = slice_index_or names label []
 pub record TakesFormula (names : List (List ℕ)) (before now : Option (List ℕ)) (label : ℕ) (formula : PlainFormula) : Type 0 where
   pub bytes : List ℕ
   pub taken : Consumes before now bytes
-  pub within : length bytes ≤ formulas_limit
+  pub within : length bytes ≤ FORMULAS_LIMIT
   pub end : IsAtEnd now
   pub declared : label < length names
   pub plain : IsPlainFormula (name_at names label) bytes formula
@@ -134,7 +132,7 @@ pub record TakesFormula (names : List (List ℕ)) (before now : Option (List ℕ
 pub record TakesOtherFormula (names : List (List ℕ)) (before now : Option (List ℕ)) : Type 0 where
   pub bytes : List ℕ
   pub taken : Consumes before now bytes
-  pub within : length bytes ≤ formulas_limit
+  pub within : length bytes ≤ FORMULAS_LIMIT
   pub end : IsAtEnd now
   pub other : (label : ℕ) (formula : PlainFormula) → label < length names → ¬ IsPlainFormula (name_at names label) bytes formula
 
@@ -142,7 +140,7 @@ pub record TakesOtherFormula (names : List (List ℕ)) (before now : Option (Lis
 pub record TakesTooMuch (before now : Option (List ℕ)) : Type 0 where
   pub bytes : List ℕ
   pub taken : Consumes before now bytes
-  pub long : length bytes ≡ formulas_limit + 1
+  pub long : length bytes ≡ FORMULAS_LIMIT + 1
 
 -- the formula was read over the chain's labels, and these are its text, its horizon and the answers at the states
 pub record AnswersFormula (over : LabelledChain) (before now : Option (List ℕ)) (text : List ℕ) (horizon : Option ℕ) (states : List StateAnswer) : Type 0 where

@@ -1,7 +1,8 @@
 -- What is known after the words, the files and the formulas are read.
 use Rattle.std.specs.Prelude.{◌≡◌, ℕ, ◌^◌, ◌<◌, ◌≤◌, ◌⊎◌, List, [], ◌∷◌, ◌++◌, length, Option, Some, None, All, Vec, Result, Ok, Err}
 use Rattle.std.specs.declared.alloc.Global.{Global}
-use Rattle.outside.specs.Shelf.{Pair, IsFile, IsTooBig, file_limit}
+use Rattle.outside.specs.Shelf.{Pair, IsFile, IsTooBig}
+use Rattle.outside.specs.declared.files.TheConstants.{FILE_LIMIT}
 use Rattle.model_core.specs.Files.{TraLists, LabLists, RewLists}
 use Rattle.model_core.specs.Model.{ModelLists, IsBuiltOf, labelled_chain}
 use Rattle.session.specs.Command.{FileNames, names_of, rew_name}
@@ -17,8 +18,6 @@ use Rattle.session.specs.declared.reading.Reply.TheVariants.{Usage as UsageReply
 use Rattle.session.specs.declared.reading.ModelReading.{ModelReading}
 use Rattle.session.specs.declared.reading.ModelReading.TheVariants.{Built, Faulty as FileFaulty}
 use Rattle.session.specs.declared.reading.Stop.{Stop}
-use Rattle.session.specs.declared.report.StateAnswer.{StateAnswer}
-use Rattle.session.specs.declared.uniformise.Refusal.{Refusal}
 use Rattle.text_lines.specs.declared.fault.FileFault.{FileFault}
 use Rattle.session.specs.declared.status.Part.TheVariants.{Formula}
 
@@ -41,7 +40,7 @@ IsWritable (AnswerReply answer) = All IsPrintable answer.states.items × (length
 -- a file's bytes, or none where there are too many
 abbrev pub IsFileReading : List ℕ → Option (List Pair) → Option (Vec ℕ Global) → Type 0
 IsFileReading name files None = IsTooBig name files
-IsFileReading name files (Some bytes) = IsFile name files bytes.items × (length bytes.items ≤ file_limit)
+IsFileReading name files (Some bytes) = IsFile name files bytes.items × (length bytes.items ≤ FILE_LIMIT)
 
 -- the chain of a file, or what is wrong with it
 abbrev pub IsTraReading : List ℕ → Option (List Pair) → Result TraLists FileFault → Type 0

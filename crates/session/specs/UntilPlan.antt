@@ -1,9 +1,10 @@
 -- When the plan of a time-bounded until is refused.
-use Rattle.std.specs.Prelude.{◌≡◌, ℕ, suc, ◌*◌, ◌<◌, ◌^◌, Bool, true, if◌then◌else◌, nat_lt, Option, Some, None}
+use Rattle.std.specs.Prelude.{◌≡◌, ℕ, suc, ◌*◌, ◌<◌, ◌≤◌, ◌^◌, Bool, true, if◌then◌else◌, nat_lt, Option, Some, None}
 use Rattle.ctmc_semantics.specs.Chain.{Chain}
 use Rattle.ctmc_semantics.specs.Fraction.{Fraction}
 use Rattle.ctmc_semantics.specs.Sets.{holds_at}
-use Rattle.ctmc_semantics.specs.Uniformised.{time_load, uniformised}
+use Rattle.ctmc_semantics.specs.Uniformised.{time_load, uniform_rate, uniformised}
+use Rattle.ctmc_semantics.specs.Weights.{mode}
 use Rattle.ctmc_semantics.specs.Horizon.{horizon}
 use Rattle.decimal_text.specs.DecimalNumber.{DecimalNumber}
 use Rattle.step_core.specs.FrameRows.{StandFor}
@@ -13,26 +14,29 @@ use Rattle.step_core.specs.SoundPlan.{IsSoundPlan}
 use Rattle.step_core.specs.WeightLists.{WeightLists}
 use Rattle.step_core.specs.declared.mix.Mix.TheVariants.{Poisson}
 use Rattle.session.specs.ExactAnswer.{until_bits}
+use Rattle.poisson_tail.specs.declared.layers.TheConstants.{MOST_LAYERS}
+use Rattle.session.specs.declared.uniformise.TheConstants.{MOST_WORDS}
+use Rattle.session.specs.declared.uniformise.TimeBound.{TimeBound}
 use Rattle.session.specs.declared.uniformise.Refusal.{Refusal}
 use Rattle.session.specs.declared.uniformise.Refusal.TheVariants.{TooLong, TooLarge}
-
--- the greatest number of jumps that is looked at
-abbrev pub most_jumps : ℕ
-most_jumps = 16384
-
--- the words of the greatest table
-abbrev pub most_words : ℕ
-most_words = 2 ^ 23
 
 -- a table of the numbers of jumps up to `last` has a word for each of them and each state
 abbrev pub plan_refusal : ℕ → ℕ → Option Refusal
 plan_refusal last states =
-    if nat_lt most_jumps last then Some TooLong
-    else (if nat_lt most_words (suc last * states) then Some TooLarge else None)
+    if nat_lt MOST_LAYERS last then Some TooLong
+    else (if nat_lt MOST_WORDS (suc last * states) then Some TooLarge else None)
 
 -- jumps are looked at up to the horizon of the load, past which at most `2^-30` is left
 abbrev pub until_refusal : Chain → ℕ → DecimalNumber → Option Refusal
 until_refusal chain rate_decimals time = plan_refusal (horizon (time_load chain rate_decimals time.c time.x) until_bits) chain.states
+
+-- what a plan needs of a time bound over the chain, beside that its horizon is the load's: no plan looks further, the weights have their
+-- greatest by then, and the jumps have the uniformised chain's rate
+pub record IsTimeBound (chain : Chain) (bound : TimeBound) : Type 0 where
+  pub few : bound.last ≤ MOST_LAYERS
+  pub has_mode : mode bound.load ≤ bound.last
+  pub uniform : bound.uniform ≡ uniform_rate chain
+  pub fits : bound.uniform < 2 ^ 63
 
 -- the plan is sound, and is that of reaching the goal within the load's time: its rows stand for the uniformised chain, every state is live,
 -- and its weights are the load's

@@ -17,11 +17,13 @@ mod uniformise;
 mod uniformised_rows;
 mod until_plan;
 mod until_states;
+mod worked_example;
 
 pub use laws::{input_has_an_outcome, outcome_is_one};
 pub use status::{Fault, ModelFault, Part, Status, Which};
 pub use sure::serve_surely;
 pub use top::serve;
+pub use worked_example::serve_example;
 
 #[cfg(test)]
 mod tests;

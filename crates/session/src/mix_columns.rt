@@ -7,6 +7,7 @@ ghost use Rattle.ctmc_semantics.specs.Sum.{sum_below};
 ghost use Rattle.session.specs.MixColumns.{column, floor_sum, ceiling_sum, HasSums, IsWordTable, AreSumsOf, first_mixes};
 ghost use Rattle.step_core.specs.SoundPlan.{AreSoundWeights, IsSoundPoisson};
 
+use poisson_tail::MOST_LAYERS;
 use round_out::ONE;
 use std::alloc::{AllocError, Global};
 use step_core::{Bracket, Tables, Weights};
@@ -23,7 +24,7 @@ pub(crate) struct WeightSums {
 /// Adds up the weights of 0 to `last` jumps.
 pub(crate) fn weight_sums(weights: &Weights, last: usize) -> WeightSums
     requires sound { AreSoundWeights last weights.now }
-    requires few { last ≤ 16384 }
+    requires few { last ≤ MOST_LAYERS }
     ensures { AreSumsOf last weights.now result }
 {
     WeightSums {
@@ -35,10 +36,10 @@ pub(crate) fn weight_sums(weights: &Weights, last: usize) -> WeightSums
 // The sum of the weights of 0 to `last` jumps.
 fn sum(weights: &[u64], last: usize) -> u128
     requires layers { length weights.now ≡ suc last }
-    requires few { last ≤ 16384 }
+    requires few { last ≤ MOST_LAYERS }
     requires at_most_one { (k : ℕ) → k ≤ last → slice_index weights.now k ≤ ONE }
     ensures value { result ≡ sum_below (suc last) (slice_index weights.now) }
-    ensures small { result ≤ 16385 * 2 ^ 62 }
+    ensures small { result ≤ (MOST_LAYERS + 1) * 2 ^ 62 }
 {
     let mut sum: u128 = 0;
     for layer in 0..last + 1 {
@@ -52,7 +53,7 @@ fn add_floors(sums: &mut [u128], weight: u64, words: &[u64])
     requires states { length sums.old ≡ length words.now }
     requires weight { weight ≤ ONE }
     requires words { EachIndex words.now (λ s. slice_index words.now s ≤ ONE) }
-    requires room { EachIndex sums.old (λ s. slice_index sums.old s ≤ 16384 * 2 ^ 110) }
+    requires room { EachIndex sums.old (λ s. slice_index sums.old s ≤ MOST_LAYERS * 2 ^ 110) }
     ensures { EachIndex sums.new (λ s. slice_index sums.new s
         ≡ slice_index sums.old s + weight * slice_index words.now s / 2 ^ 14) }
 {
@@ -67,7 +68,7 @@ fn add_ceilings(sums: &mut [u128], weight: u64, words: &[u64])
     requires states { length sums.old ≡ length words.now }
     requires weight { weight ≤ ONE }
     requires words { EachIndex words.now (λ s. slice_index words.now s ≤ ONE) }
-    requires room { EachIndex sums.old (λ s. slice_index sums.old s ≤ 16384 * 2 ^ 110) }
+    requires room { EachIndex sums.old (λ s. slice_index sums.old s ≤ MOST_LAYERS * 2 ^ 110) }
     ensures { EachIndex sums.new (λ s. slice_index sums.new s
         ≡ slice_index sums.old s + div_ceil (weight * slice_index words.now s) (2 ^ 14)) }
 {
@@ -86,7 +87,7 @@ fn floor_sums(
     states: usize,
 ) -> Result<Vec<u128>, AllocError>
     requires layers { length weights.now ≡ suc last }
-    requires few { last ≤ 16384 }
+    requires few { last ≤ MOST_LAYERS }
     requires at_most_one { (k : ℕ) → k ≤ last → slice_index weights.now k ≤ ONE }
     requires words { IsWordTable last states (map (λ layer. layer.items) table.now) }
     ensures { IfOk result (λ sums. HasSums states
@@ -108,7 +109,7 @@ fn ceiling_sums(
     states: usize,
 ) -> Result<Vec<u128>, AllocError>
     requires layers { length weights.now ≡ suc last }
-    requires few { last ≤ 16384 }
+    requires few { last ≤ MOST_LAYERS }
     requires at_most_one { (k : ℕ) → k ≤ last → slice_index weights.now k ≤ ONE }
     requires words { IsWordTable last states (map (λ layer. layer.items) table.now) }
     ensures { IfOk result (λ sums. HasSums states
@@ -126,7 +127,7 @@ fn quotient_bracket(low: u128, high: u128, sums: WeightSums, bits: u32) -> Brack
     requires low_weights { 0 < sums.low }
     requires high_weights { 0 < sums.high }
     requires at_most_one { low / sums.high ≤ ONE }
-    requires small { high ≤ 16385 * 2 ^ 110 }
+    requires small { high ≤ (MOST_LAYERS + 1) * 2 ^ 110 }
     requires bits { bits ≤ 48 }
     ensures lower { result.lower ≡ low / sums.high }
     ensures upper { result.upper ≡ min ONE (div_ceil high sums.low + 2 ^ (62 - bits)) }
@@ -150,7 +151,7 @@ pub(crate) fn mixed_brackets(
     states: usize,
 ) -> Result<Vec<Bracket>, AllocError>
     requires sound { IsSoundPoisson last weights.now bits }
-    requires few { last ≤ 16384 }
+    requires few { last ≤ MOST_LAYERS }
     requires low { IsWordTable last states tables.now.low }
     requires high { IsWordTable last states tables.now.high }
     ensures { IfOk result (λ brackets. brackets.items ≡ first_mixes last bits weights.now tables.now states) }

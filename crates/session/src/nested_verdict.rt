@@ -62,7 +62,7 @@ fn rate_into(model: &Model, s: u32, label: u32) -> u64
     sum
 }
 
-/// The two ends of a bracket round a probability, over one divisor.
+// The two ends of a bracket round a probability, over one divisor.
 #[derive(Clone, Copy)]
 struct Ends {
     lower: u64,

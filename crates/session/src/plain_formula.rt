@@ -9,6 +9,7 @@ ghost use Rattle.session.specs.PlainFormula.{op_text, next_text, formula_text, I
 
 use crate::plain_text::{LINE_END, take_literal, take_until};
 use decimal_text::{Decimal, print, read};
+use model_core::MOST_LABELS;
 use std::alloc::{AllocError, Global};
 use text_lines::Name;
 
@@ -77,7 +78,7 @@ pub(crate) struct NamedFormula {
 
 /// The formula over one of the declared names that the bytes of a plain formula input are, None where they are none.
 pub(crate) fn read_named_formula(bytes: &[u8], names: &[Name]) -> Option<NamedFormula>
-    requires few { length names.now ≤ 64 }
+    requires few { length names.now ≤ MOST_LABELS }
     ensures { IsNamedReading names.now bytes.now result }
 {
     for (label, name) in names.iter().enumerate() {
@@ -109,7 +110,7 @@ pub(crate) fn read_plain_formula(bytes: &[u8], name: &[u8]) -> Option<PlainFormu
     Some(PlainFormula::Until(op, threshold.number, time))
 }
 
-/// The comparison at the front of the text, and what follows it.
+// The comparison at the front of the text, and what follows it.
 fn take_op(text: &[u8]) -> Option<(Op, &[u8])>
     ensures { MatchOption result ((op : Op) (rest : List ℕ) → text.now ≢ op_text op ++ rest) (λ t. IsLongestOp text.now t.0 t.1.now) }
 {
@@ -122,14 +123,14 @@ fn take_op(text: &[u8]) -> Option<(Op, &[u8])>
     }
 }
 
-/// A number whose word stands at the front of a text, and what comes after the byte that ends it.
+// A number whose word stands at the front of a text, and what comes after the byte that ends it.
 #[derive(Clone, Copy)]
 struct NumberFront<'a> {
     number: Decimal,
     rest: &'a [u8],
 }
 
-/// The number of at most 1 whose word stands at the front of the text with a `}` after it.
+// The number of at most 1 whose word stands at the front of the text with a `}` after it.
 fn take_threshold(text: &[u8]) -> Option<NumberFront<'_>>
     ensures { IsNumberTaken IsThresholdWord 125 text.now result }
 {
@@ -149,7 +150,7 @@ fn is_at_most_one(number: Decimal) -> bool
     number.c <= 10_u64.pow(number.x)
 }
 
-/// The number whose word stands at the front of the text with the byte `ending` after it.
+// The number whose word stands at the front of the text with the byte `ending` after it.
 fn take_decimal(text: &[u8], ending: u8) -> Option<NumberFront<'_>>
     requires no_number { (69 < ending) × (ending ≢ 101) }
     ensures { IsNumberTaken IsDecimalWord ending text.now result }
@@ -161,7 +162,7 @@ fn take_decimal(text: &[u8], ending: u8) -> Option<NumberFront<'_>>
     })
 }
 
-/// Whether the text is that of a next formula over the name from its bracket on.
+// Whether the text is that of a next formula over the name from its bracket on.
 fn is_next_end(text: &[u8], name: &[u8]) -> bool
     ensures { IsTrue result ↔ IsLine (next_text name.now) text.now }
 {
@@ -171,7 +172,7 @@ fn is_next_end(text: &[u8], name: &[u8]) -> bool
     }
 }
 
-/// The time of an until formula over the name whose text from its bracket on this is.
+// The time of an until formula over the name whose text from its bracket on this is.
 fn read_until_end(text: &[u8], name: &[u8]) -> Option<Decimal>
     ensures { IsReading (IsUntilEnd name.now text.now) result }
 {
@@ -185,7 +186,7 @@ fn read_until_end(text: &[u8], name: &[u8]) -> Option<Decimal>
     }
 }
 
-/// Whether the text is the name, a bracket and at most one byte that ends the line.
+// Whether the text is the name, a bracket and at most one byte that ends the line.
 fn is_name_end(text: &[u8], name: &[u8]) -> bool
     ensures { IsTrue result ↔ IsLine (name.now ++ codes "]") text.now }
 {
@@ -195,7 +196,7 @@ fn is_name_end(text: &[u8], name: &[u8]) -> bool
     }
 }
 
-/// Adds the comparison with the threshold, in its braces.
+// Adds the comparison with the threshold, in its braces.
 fn push_probability(
     text: &mut Vec<u8>,
     alloc: Global,

@@ -1,7 +1,6 @@
 // What is answered to the words, the files and the formulas.
 ghost use Rattle.std.specs.Prelude.{◌≡◌, ℕ, ◌⊎◌, List, [], ◌∷◌, ◌++◌, map, string_bytes, length, IfOk, IfSome, IsErr, IsErrOf, IsNone, IsSomeAnd, ◌<◌, ◌≤◌, All};
 ghost use Rattle.ctmc_semantics.specs.Fraction.{decimal_fraction};
-ghost use Rattle.ctmc_semantics.specs.Weights.{mode};
 ghost use Rattle.ctmc_semantics.specs.Horizon.{horizon};
 ghost use Rattle.model_core.specs.Model.{has_label, model_chain};
 ghost use Rattle.std.specs.Io.KnownBytes.{Keeps};
@@ -13,6 +12,7 @@ ghost use Rattle.session.specs.PlainFormula.{comparison_of};
 ghost use Rattle.session.specs.Report.{IsPrintable};
 ghost use Rattle.session.specs.UntilAnswer.{until_answers};
 ghost use Rattle.session.specs.ExactAnswer.{until_bits};
+ghost use Rattle.session.specs.UntilPlan.{IsTimeBound};
 ghost use Rattle.session.specs.Reading.{outcome_of, IsWritable, IsFileReading, IsTraReading, IsLabReading, IsRewReading, IsModelReading, IsFormulaReading, AsksForFile, AsksForRew, AsksForModel, AsksForReply, IsFormulaOutcome, IsAnswerTo};
 
 use crate::command::{Command, read_words};
@@ -25,7 +25,7 @@ use crate::until_states::check_until;
 use crate::{ModelFault, Part, Status, Which};
 use decimal_text::Decimal;
 use lab_reader::read_lab;
-use model_core::{Lab, Model, Rew, Tra};
+use model_core::{Lab, MOST_LABELS, Model, Rew, Tra};
 use outside::{Files, Source, TakeFault, read_whole};
 use rew_reader::read_rew;
 use std::alloc::{AllocError, Global};
@@ -174,15 +174,14 @@ fn answer_until(
 ) -> Result<Vec<StateAnswer>, AllocError>
     requires label { label < length model.now.names }
     requires last { bound.last ≡ horizon bound.load until_bits }
-    requires few { bound.last ≤ 16384 }
-    requires has_mode { mode bound.load ≤ bound.last }
+    requires bound { IsTimeBound (model_chain model.now) bound }
     ensures answers { IfOk result (λ states. states.items ≡ until_answers (model_chain model.now) bound.load (has_label model.now.marks label)
         (comparison_of op) (decimal_fraction threshold.c threshold.x)) }
     ensures printable { IfOk result (λ states. All IsPrintable states.items) }
     ensures few { IfOk result (λ states. length states.items ≤ 65536) }
 {
-    let plan = plan_until(alloc, model, label, &bound.load, bound.last)?;
-    check_until(alloc, model, label, &plan, op, threshold)
+    let plan = plan_until(alloc, model, label, &bound)?;
+    check_until(alloc, &plan, op, threshold)
 }
 
 // Takes and reads the files, one after another, and builds the model.
@@ -305,7 +304,7 @@ fn read_formula<S: Source>(
     formulas: &mut S,
     names: &[Name],
 ) -> Result<Option<NamedFormula>, Stop>
-    requires { length names.now ≤ 64 }
+    requires { length names.now ≤ MOST_LABELS }
     ensures formula { IfOk result (IsFormulaReading names.now (S.left formulas.old) (S.left formulas.new)) }
     ensures cause { HasCause (S.fault_count formulas.old) (S.fault_count formulas.new) (IsErrOf result Stop.Read) }
 {

@@ -26,7 +26,7 @@ pub struct ModelFault {
 }
 
 impl ModelFault {
-    // The fault of one of the files.
+    /// The fault of one of the files.
     pub(crate) fn of(file: Which, fault: FileFault) -> ModelFault
         ensures file { result.file ≡ file }
         ensures line { result.line ≡ fault.line }

@@ -1,11 +1,10 @@
 // What a time bound asks of a plan: its load and its horizon.
 ghost use Rattle.std.specs.Prelude.{◌≡◌, Ok, Err, Some, None, ◌<◌, ◌≤◌, ◌^◌, IfOk, MatchResult};
 ghost use Rattle.ctmc_semantics.specs.Uniformised.{greatest_exit_rate, time_load};
-ghost use Rattle.ctmc_semantics.specs.Weights.{mode};
 ghost use Rattle.ctmc_semantics.specs.Horizon.{horizon};
 ghost use Rattle.model_core.specs.Model.{model_chain};
 ghost use Rattle.session.specs.ExactAnswer.{until_bits};
-ghost use Rattle.session.specs.UntilPlan.{until_refusal};
+ghost use Rattle.session.specs.UntilPlan.{until_refusal, IsTimeBound};
 
 use decimal_text::Decimal;
 use model_core::Model;
@@ -20,47 +19,56 @@ pub(crate) enum Refusal {
     TooLarge,
 }
 
-// An average that is cut at the horizon lacks at most 2^-30.
+/// An average that is cut at the horizon lacks at most 2^-30.
 pub(crate) const BITS: u32 = 30;
 
+// The words of the greatest table.
 const MOST_WORDS: u64 = 1 << 23;
 
-/// The expected number of jumps within a time, and the number of jumps up to which is looked.
+/// What a plan needs of a time bound: the number of jumps that are expected within the time, the number of jumps up to
+/// which is looked, and the rate of the uniformised chain's jumps.
 #[derive(Clone, Copy, Debug)]
 pub(crate) struct TimeBound {
     pub(crate) load: Load,
     pub(crate) last: u32,
+    pub(crate) uniform: u64,
 }
 
-/// The load and the horizon of an until with the time bound over the model, or why it is refused.
+/// What a plan needs of the time bound of an until over the model, or why the until is refused.
 pub(crate) fn time_bound(model: &Model, time: Decimal) -> Result<TimeBound, Refusal>
     ensures refusal { MatchResult result (λ _. until_refusal (model_chain model.now) model.now.scale time ≡ None)
         (λ refusal. until_refusal (model_chain model.now) model.now.scale time ≡ Some refusal) }
     ensures load { IfOk result (λ bound. bound.load ≡ time_load (model_chain model.now) model.now.scale time.c time.x) }
     ensures last { IfOk result (λ bound. bound.last ≡ horizon bound.load until_bits) }
-    ensures few { IfOk result (λ bound. bound.last ≤ 16384) }
-    ensures has_mode { IfOk result (λ bound. mode bound.load ≤ bound.last) }
+    ensures bound { IfOk result (IsTimeBound (model_chain model.now)) }
 {
-    let load = time_load(model, time);
+    let greatest = greatest_exit_rate(model);
+    let load = time_load(model, greatest, time);
     let Some(last) = horizon(&load, BITS) else {
         return Err(Refusal::TooLong);
     };
     if (u64::from(last) + 1) * u64::from(model.n()) > MOST_WORDS {
         return Err(Refusal::TooLarge);
     }
-    Ok(TimeBound { load, last })
+    Ok(TimeBound {
+        load,
+        last,
+        uniform: greatest.max(1),
+    })
 }
 
-// The number of jumps that are expected within the time.
-fn time_load(model: &Model, time: Decimal) -> Load
+// The number of jumps that are expected within the time, at the greatest rate at which a state is left.
+fn time_load(model: &Model, greatest: u64, time: Decimal) -> Load
+    requires value { greatest ≡ greatest_exit_rate (model_chain model.now) }
+    requires bound { greatest < 2 ^ 63 }
     ensures { result ≡ time_load (model_chain model.now) model.now.scale time.c time.x }
 {
-    let jumps = u128::from(greatest_exit_rate(model)) * u128::from(time.c);
+    let jumps = u128::from(greatest) * u128::from(time.c);
     Load::new(jumps, 10u128.pow(model.scale() + time.x))
 }
 
 // The greatest rate at which a state is left.
-pub(crate) fn greatest_exit_rate(model: &Model) -> u64
+fn greatest_exit_rate(model: &Model) -> u64
     ensures value { result ≡ greatest_exit_rate (model_chain model.now) }
     ensures bound { result < 2 ^ 63 }
 {

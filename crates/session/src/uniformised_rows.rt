@@ -6,34 +6,29 @@ ghost use Rattle.step_core.specs.FrameRows.{StandFor, number_to};
 ghost use Rattle.step_core.specs.SoundFrame.{IsSoundRow};
 ghost use Rattle.session.specs.UniformisedRow.{share_entry, transition_entries};
 
-use crate::uniformise::greatest_exit_rate;
 use model_core::{Model, Rate};
 use round_out::Entry;
 use std::alloc::{AllocError, Global};
 use step_core::Row;
 
 /// The rows of the uniformised chain, a row for each state: the rates over the uniform rate, and the loop's share.
-pub(crate) fn uniformised_rows(alloc: Global, model: &Model) -> Result<Vec<Row>, AllocError>
+pub(crate) fn uniformised_rows(
+    alloc: Global,
+    model: &Model,
+    uniform: u64,
+) -> Result<Vec<Row>, AllocError>
+    requires value { uniform ≡ uniform_rate (model_chain model.now) }
+    requires bound { uniform < 2 ^ 63 }
     ensures stand { IfOk result (λ rows. StandFor rows.items (uniformised (model_chain model.now))) }
     ensures sound { IfOk result (λ rows. All (IsSoundRow model.now.n) rows.items) }
     ensures states { IfOk result (λ rows. length rows.items ≡ model.now.n) }
 {
-    let uniform = uniform_rate(model);
     let n = model.n();
     let mut rows = Vec::with_capacity(alloc, n as usize)?;
     for s in 0..n {
         rows.push(uniformised_row(alloc, model, s, uniform)?)?;
     }
     Ok(rows)
-}
-
-// The rate of the uniformised chain's jumps.
-fn uniform_rate(model: &Model) -> u64
-    ensures value { result ≡ uniform_rate (model_chain model.now) }
-    ensures positive { 0 < result }
-    ensures bound { result < 2 ^ 63 }
-{
-    greatest_exit_rate(model).max(1)
 }
 
 // A state's row: its rates, and the loop's share of the uniform rate.

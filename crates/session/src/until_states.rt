@@ -1,52 +1,78 @@
 // The answers of a time-bounded until at each state, from its plan.
-ghost use Rattle.std.specs.Prelude.{◌≡◌, ◌<◌, ◌≤◌, true, length, IfOk, All};
+ghost use Rattle.std.specs.Prelude.{◌≡◌, ℕ, ◌≤◌, Bool, true, length, slice_index_or, IfOk, All};
+ghost use Rattle.ctmc_semantics.specs.Chain.{Chain};
 ghost use Rattle.ctmc_semantics.specs.Fraction.{Fraction, decimal_fraction};
 ghost use Rattle.ctmc_semantics.specs.WordBracket.{WordBracket, settle};
-ghost use Rattle.model_core.specs.Model.{has_label, model_chain};
+ghost use Rattle.step_core.specs.SoundPlan.{IsSoundPlan};
+ghost use Rattle.session.specs.MixColumns.{AreMixesOf, IsBounded};
 ghost use Rattle.session.specs.PlainFormula.{comparison_of};
 ghost use Rattle.session.specs.Report.{IsPrintable};
-ghost use Rattle.session.specs.UntilAnswer.{until_answers};
+ghost use Rattle.session.specs.UntilAnswer.{until_answers, settled_answers};
 ghost use Rattle.session.specs.UntilPlan.{IsUntilPlan};
 
 use crate::mix_columns::mixed_brackets;
 use crate::nested_verdict::words_answer;
 use crate::plain_formula::Op;
 use crate::report::StateAnswer;
-use crate::uniformise::BITS;
 use decimal_text::Decimal;
-use model_core::Model;
 use round_out::ONE;
 use std::alloc::{AllocError, Global};
 use step_core::{Bracket, Mix, Plan, plain_tables};
 
-/// Answers `P{op threshold}[tt U[0,t] label]` at each state, by the plan of reaching the label within the time.
+/// Answers `P{op threshold}[tt U[0,t] goal]` at each state, by the plan of reaching the goal within the time.
 pub(crate) fn check_until(
     alloc: Global,
-    model: &Model,
-    label: u32,
     plan: &Plan,
     op: Op,
     threshold: Decimal,
 ) -> Result<Vec<StateAnswer>, AllocError>
-    requires label { label < length model.now.names }
-    requires plan { (load : Fraction) × IsUntilPlan (model_chain model.now) load (has_label model.now.marks label) plan.now }
-    ensures answers { (load : Fraction) → IsUntilPlan (model_chain model.now) load (has_label model.now.marks label) plan.now
-        → IfOk result (λ states. states.items ≡ until_answers (model_chain model.now) load (has_label model.now.marks label)
-        (comparison_of op) (decimal_fraction threshold.c threshold.x)) }
+    requires plan { (chain : Chain) × (load : Fraction) × (goal : ℕ → Bool) × IsUntilPlan chain load goal plan.now }
+    ensures answers { (chain : Chain) → (load : Fraction) → (goal : ℕ → Bool) → IsUntilPlan chain load goal plan.now
+        → IfOk result (λ states. states.items
+        ≡ until_answers chain load goal (comparison_of op) (decimal_fraction threshold.c threshold.x)) }
     ensures printable { IfOk result (λ states. All IsPrintable states.items) }
     ensures few { IfOk result (λ states. length states.items ≤ 65536) }
 {
-    let Mix::Poisson(weights, _) = &plan.mix else {
-        return Ok(Vec::new(alloc));
+    let mixes = plan_mixes(alloc, plan)?;
+    let frame = &plan.frame;
+    let sets = &frame.sets;
+    answer_mixes(alloc, &sets.goal_must, &mixes, op, threshold)
+}
+
+// The mixes of the columns of a bounded until's tables.
+fn plan_mixes(alloc: Global, plan: &Plan) -> Result<Vec<Bracket>, AllocError>
+    requires sound { IsSoundPlan plan.now }
+    requires bounded { IsBounded plan.now.mix }
+    ensures mixes { IfOk result (λ mixes. AreMixesOf plan.now mixes.items) }
+    ensures words { IfOk result (λ mixes. All (λ mix. mix.lower ≤ ONE) mixes.items) }
+    ensures upper_words { IfOk result (λ mixes. All (λ mix. mix.upper ≤ ONE) mixes.items) }
+{
+    let Mix::Poisson(weights, bits) = &plan.mix else {
+        unreachable!()
     };
-    let layers = plan.layers as usize;
-    let states = model.n() as usize;
     let tables = plain_tables(alloc, plan)?;
-    let brackets = mixed_brackets(alloc, weights, &tables, layers, BITS, states)?;
-    let mut answers = Vec::with_capacity(alloc, states)?;
-    for s in 0..model.n() {
-        let words = settled(brackets[s as usize], model.has(s, label));
-        answers.push(words_answer(words, op, threshold))?;
+    let states = plan.start_upper.len();
+    mixed_brackets(alloc, weights, &tables, plan.layers as usize, *bits, states)
+}
+
+// The answers at the states by their mixes, and by whether they are the goal.
+fn answer_mixes(
+    alloc: Global,
+    goal: &[bool],
+    mixes: &[Bracket],
+    op: Op,
+    threshold: Decimal,
+) -> Result<Vec<StateAnswer>, AllocError>
+    requires each { length mixes.now ≡ length goal.now }
+    requires words { All (λ mix. mix.lower ≤ ONE) mixes.now }
+    requires upper_words { All (λ mix. mix.upper ≤ ONE) mixes.now }
+    ensures answers { IfOk result (λ states. states.items
+        ≡ settled_answers goal.now mixes.now (comparison_of op) (decimal_fraction threshold.c threshold.x)) }
+    ensures printable { IfOk result (λ states. All IsPrintable states.items) }
+{
+    let mut answers = Vec::with_capacity(alloc, goal.len())?;
+    for s in 0..goal.len() {
+        answers.push(words_answer(settled(mixes[s], goal[s]), op, threshold))?;
     }
     Ok(answers)
 }

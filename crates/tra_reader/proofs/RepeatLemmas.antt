@@ -13,33 +13,34 @@ use Rattle.std.specs.List.{AllPairs, Contains}
 use Rattle.std.specs.List.Sorted.{IsPermutation, IsSorted, IsNonDecreasing, IsStrictlyIncreasing}
 use Rattle.std.specs.Ordering.{nat_cmp}
 use Rattle.model_core.specs.declared.limits.TheConstants.{MOST_TRANSITIONS}
-use Rattle.tra_reader.specs.Repeats.{places, AreKeys, IsSameAsNext, IsLeastMark, IsFirstRepeat}
+use Rattle.tra_reader.specs.Repeats.{AreKeys, IsSameAsNext, IsLeastMark, IsFirstRepeat}
+use Rattle.tra_reader.specs.declared.repeats.TheConstants.{PLACES}
 
 -- what a mark is after the keys below i
 pub record IsLeastSoFar (keys : List ℕ) (i mark : ℕ) : Type 0 where
   pub within : mark ≤ length keys
-  pub found : mark < length keys → (k : ℕ) × (k + 1 < length keys) × IsSameAsNext keys k × (mark ≡ get_or keys (k + 1) 0 % places)
-  pub least : (k : ℕ) → k + 1 < i → IsSameAsNext keys k → mark ≤ get_or keys (k + 1) 0 % places
+  pub found : mark < length keys → (k : ℕ) × (k + 1 < length keys) × IsSameAsNext keys k × (mark ≡ get_or keys (k + 1) 0 % PLACES)
+  pub least : (k : ℕ) → k + 1 < i → IsSameAsNext keys k → mark ≤ get_or keys (k + 1) 0 % PLACES
 
 -- one more key, whose number is that of the key before it
-pub mark-same : (keys : List ℕ) (i mark new : ℕ) → 1 ≤ i → i < length keys → get_or keys (i - 1) 0 / places ≡ get_or keys i 0 / places
-    → new ≡ min mark (get_or keys i 0 % places) → IsLeastSoFar keys i mark → IsLeastSoFar keys (i + 1) new
+pub mark-same : (keys : List ℕ) (i mark new : ℕ) → 1 ≤ i → i < length keys → get_or keys (i - 1) 0 / PLACES ≡ get_or keys i 0 / PLACES
+    → new ≡ min mark (get_or keys i 0 % PLACES) → IsLeastSoFar keys i mark → IsLeastSoFar keys (i + 1) new
 mark-same keys i mark new some within same is h =
     let e : i - 1 + 1 ≡ i = omega arith in
     record {
       within = omega (arith, h.within);
-      found = λ less. elim (cases_lt mark (get_or keys i 0 % places)) [
+      found = λ less. elim (cases_lt mark (get_or keys i 0 % PLACES)) [
         | inl kept ↦ let f = h.found (omega arith) in (f.0, f.1, f.2, omega (arith, f.3))
         | inr moved ↦ (i - 1, omega arith, rw e same, rw e (omega arith))
       ];
       least = λ j below at. elim (cases_eq (j + 1) i) [
         | inl last ↦ rw last (omega arith)
-        | inr other ↦ let old : mark ≤ get_or keys (j + 1) 0 % places = h.least j (omega arith) at in omega arith
+        | inr other ↦ let old : mark ≤ get_or keys (j + 1) 0 % PLACES = h.least j (omega arith) at in omega arith
       ];
     }
 
 -- one more key, whose number is another
-pub mark-other : (keys : List ℕ) (i mark : ℕ) → 1 ≤ i → get_or keys (i - 1) 0 / places ≢ get_or keys i 0 / places
+pub mark-other : (keys : List ℕ) (i mark : ℕ) → 1 ≤ i → get_or keys (i - 1) 0 / PLACES ≢ get_or keys i 0 / PLACES
     → IsLeastSoFar keys i mark → IsLeastSoFar keys (i + 1) mark
 mark-other keys i mark some other h = record {
   within = h.within;
@@ -97,7 +98,7 @@ turned x y =
 
 module _ (numbers keys sorted : List ℕ) (few : length numbers ≤ MOST_TRANSITIONS) (are : AreKeys numbers keys) (moved : IsPermutation keys sorted) (in_order : IsSorted nat_cmp sorted) where
   -- where the key of a place stands
-  sorted_of : (i : ℕ) → i < length numbers → (p : ℕ) × (p < length sorted) × (get_or sorted p 0 ≡ get_or numbers i 0 * places + i)
+  sorted_of : (i : ℕ) → i < length numbers → (p : ℕ) × (p < length sorted) × (get_or sorted p 0 ≡ get_or numbers i 0 * PLACES + i)
   sorted_of i within =
       let k = get_or keys i 0 in
       let there : Contains keys k = (i, omega (arith, are.long), get_or_default keys i k 0 (omega (arith, are.long))) in
@@ -105,7 +106,7 @@ module _ (numbers keys sorted : List ℕ) (few : length numbers ≤ MOST_TRANSIT
       (found.0, found.1, get_or_default sorted found.0 0 k found.1 ∙ found.2 ∙ are.each i within)
 
   -- the place whose key it is
-  place_of : (p : ℕ) → p < length sorted → (i : ℕ) × (i < length numbers) × (get_or sorted p 0 ≡ get_or numbers i 0 * places + i)
+  place_of : (p : ℕ) → p < length sorted → (i : ℕ) × (i < length numbers) × (get_or sorted p 0 ≡ get_or numbers i 0 * PLACES + i)
   place_of p within =
       let k = get_or sorted p 0 in
       let there : Contains sorted k = (p, within, get_or_default sorted p k 0 within) in
@@ -118,10 +119,10 @@ module _ (numbers keys sorted : List ℕ) (few : length numbers ≤ MOST_TRANSIT
 
   apart : AllPairs ◌≢◌ keys
   apart i j d below inside =
-      let left : get_or keys i d ≡ get_or numbers i 0 * places + i =
+      let left : get_or keys i d ≡ get_or numbers i 0 * PLACES + i =
       get_or_default keys i d 0 (omega arith) ∙ are.each i (omega (arith, are.long))
       in
-      let right : get_or keys j d ≡ get_or numbers j 0 * places + j =
+      let right : get_or keys j d ≡ get_or numbers j 0 * PLACES + j =
       get_or_default keys j d 0 inside ∙ are.each j (omega (arith, are.long))
       in
       λ e. omega (arith, left, right, e, are.long)
@@ -145,9 +146,9 @@ module _ (numbers keys sorted : List ℕ) (few : length numbers ≤ MOST_TRANSIT
                   let last : q.0 - 1 + 1 ≡ q.0 = omega arith in
                   let low : get_or sorted p.0 0 ≤ get_or sorted (q.0 - 1) 0 = no_fall p.0 (q.0 - 1) 0 (omega arith) (omega (arith, q.1)) in
                   let high : get_or sorted (q.0 - 1) 0 ≤ get_or sorted q.0 0 = no_fall (q.0 - 1) q.0 0 (omega arith) q.1 in
-                  let both : get_or sorted (q.0 - 1) 0 / places ≡ get_or sorted q.0 0 / places = omega (arith, p.2, q.2, same, h.within) in
+                  let both : get_or sorted (q.0 - 1) 0 / PLACES ≡ get_or sorted q.0 0 / PLACES = omega (arith, p.2, q.2, same, h.within) in
                   let past = h.least (q.0 - 1) (omega (arith, q.1)) (rw last both) in
-                  let mark_past : mark ≤ get_or sorted q.0 0 % places = rw last at past in
+                  let mark_past : mark ≤ get_or sorted q.0 0 % PLACES = rw last at past in
                   omega (arith, q.2, h.within)
               | inr other ↦
                   let fall : get_or sorted q.0 0 ≤ get_or sorted p.0 0 = no_fall q.0 p.0 0 other p.1 in

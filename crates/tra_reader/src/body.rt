@@ -9,14 +9,14 @@ use model_core::MOST_STATES;
 use std::alloc::{AllocError, Global};
 use text_lines::{EntryLine, FileWhat, LineIter, next_filled};
 
-// The transitions that were read, and why no more of them were.
+/// The transitions that were read, and why no more of them were.
 #[derive(Drop)]
 pub(crate) struct Body {
     pub(crate) entries: Vec<EntryLine<Pair>>,
     pub(crate) stop: Stop,
 }
 
-// Why no more lines were read.
+/// Why no more lines were read.
 #[derive(Clone, Copy)]
 pub(crate) enum Stop {
     // As many as the head says were read, and there is no further line.
@@ -29,7 +29,7 @@ pub(crate) enum Stop {
     Failing(u64, FileWhat),
 }
 
-// The transitions of the lines after the head, until all are read or a line fails. There is room for so many at first.
+/// The transitions of the lines after the head, until all are read or a line fails. There is room for so many at first.
 pub(crate) fn read_body<'a>(
     alloc: Global,
     lines: &mut LineIter<'a>,

@@ -11,7 +11,7 @@ use decimal_text::read;
 use model_core::MOST_STATES;
 use text_lines::{EntryLine, FileWhat, Line, whole};
 
-// The two states of a transition, numbered from 0. With it an `EntryLine` has 24 bytes.
+/// The two states of a transition, numbered from 0. With it an `EntryLine` has 24 bytes.
 #[derive(Clone, Copy)]
 pub(crate) struct Pair {
     pub(crate) from: u16,
@@ -26,7 +26,7 @@ struct StatesWord<'a> {
     rate: &'a [u8],
 }
 
-// The transition that the line writes between two of n states, or what is wrong with the line.
+/// The transition that the line writes between two of n states, or what is wrong with the line.
 pub(crate) fn read_entry(line: Line<'_>, n: u32) -> Result<EntryLine<Pair>, FileWhat>
     requires { n ≤ MOST_STATES }
     ensures entry { IfOk result (IsEntryLine (transition_lines n) pair_of (row_of_line line.entry)) }

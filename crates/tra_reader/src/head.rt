@@ -11,7 +11,7 @@ ghost use Rattle.tra_reader.specs.TraFault.{LacksCount, LinesHaveFault};
 use model_core::{MOST_STATES, MOST_TRANSITIONS};
 use text_lines::{FileWhat, LineIter, ReadFault, end_line, next_filled, two_words, whole};
 
-// How many states there are, and how many lines of transitions follow.
+/// How many states there are, and how many lines of transitions follow.
 #[derive(Clone, Copy)]
 pub(crate) struct Head {
     pub(crate) states: u32,
@@ -25,7 +25,7 @@ struct CountLine {
     count: u64,
 }
 
-// What the first two of the lines say; the lines of transitions are left.
+/// What the first two of the lines say; the lines of transitions are left.
 pub(crate) fn read_head<'a>(bytes: &'a [u8], lines: &mut LineIter<'a>) -> Result<Head, ReadFault>
     ensures head { IfOk result (λ head. IsHead (word_lines_in lines.old) head (word_lines_in lines.new)) }
     ensures fault { IfErr result (IsToldBy (LinesHaveFault (word_lines_in lines.old) (end_line_of bytes.now))) }

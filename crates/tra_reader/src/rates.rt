@@ -11,7 +11,7 @@ use model_core::{AMOUNT_LIMIT, Rate};
 use std::alloc::{AllocError, Global};
 use text_lines::{EntryLine, value_at};
 
-// The place of the first entry at which the rates out of its state add up to `2^63` or more.
+/// The place of the first entry at which the rates out of its state add up to `2^63` or more.
 pub(crate) fn first_large(
     alloc: Global,
     entries: &[EntryLine<Pair>],
@@ -36,7 +36,7 @@ pub(crate) fn first_large(
     Ok(None)
 }
 
-// The transitions whose rates are not 0, at the scale.
+/// The transitions whose rates are not 0, at the scale.
 pub(crate) fn rates_of(
     alloc: Global,
     entries: &[EntryLine<Pair>],

@@ -11,8 +11,8 @@ use text_lines::EntryLine;
 // More than any entry's place.
 const PLACES: u64 = 1 << 20;
 
-// The place of the first entry that is between the states of an earlier one, or how many entries there are where none
-// is. Where the pairs ascend nothing is sorted.
+/// The place of the first entry that is between the states of an earlier one, or how many entries there are where none
+/// is. Where the pairs ascend nothing is sorted.
 pub(crate) fn first_repeated(
     alloc: Global,
     entries: &[EntryLine<Pair>],

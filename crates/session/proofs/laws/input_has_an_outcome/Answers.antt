@@ -1,5 +1,4 @@
 use Rattle.session.specs.Command.{command_of}
-use Rattle.session.specs.Laws.{SomeOutcome}
 use Rattle.session.proofs.SomeOutcomes.{some_outcome}
 use Rattle.session.proofs.laws.input_has_an_outcome.Goals as goal
 

@@ -1,4 +1,4 @@
-use Rattle.std.proofs.Common.{◌∙◌, arith, rules}
+use Rattle.std.proofs.Common.{◌∙◌, rules}
 use Rattle.session.proofs.Fronts.{front_so_far, front_of_state, state_written}
 use Rattle.session.specs.Report.{state_lines}
 use Rattle.session.proofs.report.write_state_lines.Goals as goal

@@ -1,4 +1,4 @@
-use Rattle.std.proofs.Common.{◌≡◌, ◌+◌, ◌≤◌, drop}
+use Rattle.std.proofs.Common.{◌≡◌, ◌+◌, drop}
 use Rattle.session.specs.Report.{state_lines}
 use Rattle.session.proofs.Fronts.{IsWrittenBefore}
 use Rattle.session.proofs.report.write_state_lines.Given as goal

@@ -1,8 +1,5 @@
-use Rattle.std.proofs.Common.{◌≡◌, ◌++◌, List, ℕ, Some, map, string_bytes, arith, refl}
+use Rattle.std.proofs.Common.{◌≡◌, List, ℕ, Some, map, string_bytes, arith, refl}
 use Rattle.session.specs.Command.{command_of}
-use Rattle.session.specs.declared.status.Fault.TheVariants.{Write}
-use Rattle.session.specs.declared.status.Status.{Status}
-use Rattle.session.specs.declared.status.Status.TheVariants.{Outside}
 use Rattle.session.proofs.SureObjects.{no_read, memory_or}
 use Rattle.session.proofs.sure.serve_surely.Goals as goal
 

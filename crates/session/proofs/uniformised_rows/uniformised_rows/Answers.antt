@@ -18,8 +18,8 @@ loop-s-preserved c =
       states = omega (arith, ap length grown, length-append {A = RowLists}, c.loop-s.invariant.states);
       sound = subst (All (IsSoundRow model.n)) (sym grown) (All-push (IsSoundRow model.n) rows row c.loop-s.invariant.sound c.in_ok-uniformised_row.ensures.sound);
       divisors =
-          subst (All (λ (r : RowLists). r.den ≡ c.uniform_rate-uniform.result)) (sym grown)
-          (All-push (λ (r : RowLists). r.den ≡ c.uniform_rate-uniform.result) rows row c.loop-s.invariant.divisors c.in_ok-uniformised_row.ensures.divisor);
+          subst (All (λ (r : RowLists). r.den ≡ c.args.uniform)) (sym grown)
+          (All-push (λ (r : RowLists). r.den ≡ c.args.uniform) rows row c.loop-s.invariant.divisors c.in_ok-uniformised_row.ensures.divisor);
       numbers = λ i t l m.
           ap (λ (rs : List RowLists). number_to (row_at rs i).entries t) grown
           ∙ one_row model.n c.loop-s.s (uniformised (model_chain model)).weight rows row c.loop-s.invariant.states c.loop-s.invariant.numbers c.in_ok-uniformised_row.ensures.numbers i t l m;
@@ -28,5 +28,5 @@ loop-s-preserved c =
 pub returns-clause-stand : goal.returns-clause-stand
 returns-clause-stand c =
     let model = c.args.model.now in
-    rows_stand model c.uniform_rate-uniform.result c.loop-s.rows.items (omega (arith, c.loop-s.invariant.states)) c.uniform_rate-uniform.ensures.value c.loop-s.invariant.sound c.loop-s.invariant.divisors
+    rows_stand model c.args.uniform c.loop-s.rows.items (omega (arith, c.loop-s.invariant.states)) c.requires.value c.loop-s.invariant.sound c.loop-s.invariant.divisors
     (λ s t l m. c.loop-s.invariant.numbers s t (omega arith) m)

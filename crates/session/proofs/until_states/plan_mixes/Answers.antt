@@ -1,0 +1,63 @@
+use Rattle.std.proofs.Common.{◌≡◌, ◌∙◌, ◌^◌, ◌≤◌, All, ap, sym, subst, length, arith}
+use Rattle.std.proofs.lemmas.Result.{IfOk-weaker}
+use Rattle.step_core.specs.PlanTables.{AreTablesOf}
+use Rattle.step_core.specs.SoundPlan.{IsSoundPlan, IsSoundMix}
+use Rattle.session.specs.MixColumns.{IsWordTable, AreMixesOf, first_mixes}
+use Rattle.session.proofs.Mixes.{lower_words, upper_words}
+use Rattle.session.proofs.PlanColumns.{low_words, high_words}
+use Rattle.session.proofs.until_states.plan_mixes.Goals as goal
+
+pub mixed_brackets-requires-clause-low : goal.mixed_brackets-requires-clause-low
+mixed_brackets-requires-clause-low c =
+    let sound = subst IsSoundPlan (sym c.plan.view_is) c.requires.sound in
+    let n : length c.plan.inside.frame.rows ≡ c.len-states.result = omega (arith, c.len-states.ensures, sound.start_states) in
+    let tables = c.in_ok-tables.tables in
+    subst (λ m. IsWordTable c.plan.inside.layers m tables.low) n
+    (subst (λ p. IsWordTable p.layers (length p.frame.rows) tables.low) (sym c.plan.view_is)
+    (low_words c.args.plan.now tables c.requires.sound c.in_ok-tables.ensures))
+
+pub mixed_brackets-requires-clause-high : goal.mixed_brackets-requires-clause-high
+mixed_brackets-requires-clause-high c =
+    let sound = subst IsSoundPlan (sym c.plan.view_is) c.requires.sound in
+    let n : length c.plan.inside.frame.rows ≡ c.len-states.result = omega (arith, c.len-states.ensures, sound.start_states) in
+    let tables = c.in_ok-tables.tables in
+    subst (λ m. IsWordTable c.plan.inside.layers m tables.high) n
+    (subst (λ p. IsWordTable p.layers (length p.frame.rows) tables.high) (sym c.plan.view_is)
+    (high_words c.args.plan.now tables c.requires.sound c.in_ok-tables.ensures))
+
+pub returns-clause-mixes : goal.returns-clause-mixes
+returns-clause-mixes c =
+    let sound = subst IsSoundPlan (sym c.plan.view_is) c.requires.sound in
+    let weights = c.in-Poisson.weights in
+    let bits = c.in-Poisson.bits in
+    let tables = c.in_ok-tables.tables in
+    IfOk-weaker c.mixed_brackets.result _ (λ mixes. AreMixesOf c.args.plan.now mixes.items)
+    (λ mixes are. subst (λ p. AreMixesOf p mixes.items) c.plan.view_is (record {
+      weights = weights;
+      bits = bits;
+      is_mix = c.in-Poisson.is;
+      tables = tables;
+      of_plan = subst (λ p. AreTablesOf p tables) (sym c.plan.view_is) c.in_ok-tables.ensures;
+      are = are ∙ ap (first_mixes c.plan.inside.layers bits weights tables) (omega (arith, c.len-states.ensures, sound.start_states));
+    }))
+    c.mixed_brackets.ensures
+
+pub returns-clause-words : goal.returns-clause-words
+returns-clause-words c =
+    let sound = subst IsSoundPlan (sym c.plan.view_is) c.requires.sound in
+    let n : length c.plan.inside.frame.rows ≡ c.len-states.result = omega (arith, c.len-states.ensures, sound.start_states) in
+    let tables = c.in_ok-tables.tables in
+    let mix = subst (IsSoundMix c.plan.inside.layers) c.in-Poisson.is sound.mix in
+    let words = subst (λ m. IsWordTable c.plan.inside.layers m tables.low) n
+    (subst (λ p. IsWordTable p.layers (length p.frame.rows) tables.low) (sym c.plan.view_is)
+    (low_words c.args.plan.now tables c.requires.sound c.in_ok-tables.ensures)) in
+    IfOk-weaker c.mixed_brackets.result _ (λ mixes. All (λ mix. mix.lower ≤ 2 ^ 62) mixes.items)
+    (λ mixes are. lower_words c.plan.inside.layers c.in-Poisson.bits c.len-states.result c.in-Poisson.weights tables mixes.items are
+    mix.weights_sound words)
+    c.mixed_brackets.ensures
+
+pub returns-clause-upper_words : goal.returns-clause-upper_words
+returns-clause-upper_words c =
+    IfOk-weaker c.mixed_brackets.result _ (λ mixes. All (λ mix. mix.upper ≤ 2 ^ 62) mixes.items)
+    (λ mixes are. upper_words c.plan.inside.layers c.in-Poisson.bits c.len-states.result c.in-Poisson.weights c.in_ok-tables.tables mixes.items are)
+    c.mixed_brackets.ensures
