@@ -25,21 +25,21 @@ loop-state-preserved c =
           one_more_place
           (row_low (frame_rows rows) (holds_at sets.live_must) (holds_at sets.goal_must) (slice_index c.args.low.now))
           c.loop-state.next_low.items s c.both_words-low_word.result.0 (omega (arith, c.loop-state.invariant.low_states)) c.loop-state.invariant.low
-          (low_is rows (holds_at sets.live_must) (holds_at sets.goal_must) c.args.low.now s row c.index.result.now c.index-in-loop-state.result.now
-          c.both_words-low_word.result.0 here
-          (truth_at _ sets.goal_must s _ c.index.ensures (ap (λ f. f.goal_must) c.sets.view_is) (omega (arith, c.requires.sets.goal_must_states)))
-          (truth_at _ sets.live_must s _ c.index-in-loop-state.ensures (ap (λ f. f.live_must) c.sets.view_is) (omega (arith, c.requires.sets.live_must_states)))
+          (low_is rows (holds_at sets.live_must) (holds_at sets.goal_must) c.args.low.now s here
+          (truth_at c.index.ensures (ap (λ f. f.goal_must) c.sets.view_is) (omega (arith, c.requires.sets.goal_must_states)))
+          (truth_at c.index-in-loop-state.ensures (ap (λ f. f.live_must) c.sets.view_is) (omega (arith, c.requires.sets.live_must_states)))
           sound.targets c.both_words-low_word.ensures.low);
-      low_words = All-set (λ (w : ℕ). w ≤ 2 ^ 62) _ _ _ c.both_words-low_word.ensures.low_at_most_one c.loop-state.invariant.low_words;
+      low_words =
+          All-set (λ (w : ℕ). w ≤ 2 ^ 62) _ _ _ c.both_words-low_word.ensures.low_at_most_one c.loop-state.invariant.low_words;
       high_states = search rules;
       high =
           one_more_place
           (row_high (frame_rows rows) (holds_at sets.live_may) (holds_at sets.goal_may) (slice_index c.args.high.now))
           c.loop-state.next_high.items s c.both_words-low_word.result.1 (omega (arith, c.loop-state.invariant.high_states)) c.loop-state.invariant.high
-          (high_is rows (holds_at sets.live_may) (holds_at sets.goal_may) c.args.high.now s row c.index-in-loop-state-2.result.now c.index-in-loop-state-3.result.now
-          c.both_words-low_word.result.1 here
-          (truth_at _ sets.goal_may s _ c.index-in-loop-state-2.ensures (ap (λ f. f.goal_may) c.sets.view_is) (omega (arith, c.requires.sets.goal_may_states)))
-          (truth_at _ sets.live_may s _ c.index-in-loop-state-3.ensures (ap (λ f. f.live_may) c.sets.view_is) (omega (arith, c.requires.sets.live_may_states)))
+          (high_is rows (holds_at sets.live_may) (holds_at sets.goal_may) c.args.high.now s here
+          (truth_at c.index-in-loop-state-2.ensures (ap (λ f. f.goal_may) c.sets.view_is) (omega (arith, c.requires.sets.goal_may_states)))
+          (truth_at c.index-in-loop-state-3.ensures (ap (λ f. f.live_may) c.sets.view_is) (omega (arith, c.requires.sets.live_may_states)))
           sound.targets c.both_words-low_word.ensures.high);
-      high_words = All-set (λ (w : ℕ). w ≤ 2 ^ 62) _ _ _ c.both_words-low_word.ensures.high_at_most_one c.loop-state.invariant.high_words;
+      high_words =
+          All-set (λ (w : ℕ). w ≤ 2 ^ 62) _ _ _ c.both_words-low_word.ensures.high_at_most_one c.loop-state.invariant.high_words;
     }
