@@ -1,5 +1,6 @@
 -- Layers of words: how a word of the next one is a row's value, and how a table grows.
-use Rattle.std.proofs.Common.{◌≡◌, ℕ, suc, ◌+◌, ◌*◌, ◌/◌, ◌≤◌, ◌<◌, Bool, true, false, map, List, [], ◌∷◌, ◌++◌, length, get_or, refl, ap, sym, ◌∙◌, subst, arith, length-append}
+use Rattle.std.proofs.Common.{◌≡◌, ℕ, suc, ◌+◌, ◌*◌, ◌/◌, ◌≤◌, ◌<◌, Bool, true, false, map, List, [], ◌∷◌, ◌++◌, length, get_or, refl, ap}
+use Rattle.std.proofs.Common.{sym, ◌∙◌, subst, arith, length-append}
 use Rattle.std.proofs.lemmas.List.{get_or-map, get_or_default, get_or_append_left, length-map, map-append}
 use Rattle.std.proofs.Math.ListN.{get_or-map as read_mapped}
 use Rattle.std.proofs.Math.Seq.{get_or-append_seam}
@@ -26,7 +27,8 @@ module _ (rows : List RowLists) (live goal : ℕ → Bool) (xs : List ℕ) (s : 
       let sums = entries_sum (length rows) row.entries (slice_index xs) targets in
       e ∙ rw (sums, here, g, l) refl
 
-  pub high_is : v ≡ (if is_goal then one_word else (if is_live then div_ceil (sum_by (λ e. e.num * slice_index xs e.to) row.entries) row.den else 0))
+  pub high_is : v
+      ≡ (if is_goal then one_word else (if is_live then div_ceil (sum_by (λ e. e.num * slice_index xs e.to) row.entries) row.den else 0))
       → v ≡ row_high (frame_rows rows) live goal (slice_index xs) s
   high_is e =
       let sums = entries_sum (length rows) row.entries (slice_index xs) targets in
@@ -79,7 +81,8 @@ pub set_word_le : (b : Bool) → (if b then one_word else 0) ≤ one_word
 set_word_le true = omega arith
 set_word_le false = omega arith
 
-pub set_layer : (n : ℕ) (set : List Bool) → length set ≡ n → IsLayer n (set_words (holds_at set)) (map (λ holds. if holds then one_word else 0) set)
+pub set_layer : (n : ℕ) (set : List Bool) → length set ≡ n
+    → IsLayer n (set_words (holds_at set)) (map (λ holds. if holds then one_word else 0) set)
 set_layer n set e = record {
   states = length-map set (λ holds. if holds then one_word else 0) ∙ e;
   words = λ s l. read_mapped (λ holds. if holds then one_word else 0) set s false;
@@ -114,7 +117,8 @@ module _ {X : Type 0} (f : X → List ℕ) where
       rw (grown, map-append f xs (x ∷ [])) here
 
   -- the layer that is read has a word for each state
-  pub layer_states : {n k : ℕ} {word : ℕ → ℕ → ℕ} (xs : List X) {before : List ℕ} → before ≡ layer_at (map f xs) k → IsTable n k word (map f xs)
+  pub layer_states : {n k : ℕ} {word : ℕ → ℕ → ℕ} (xs : List X) {before : List ℕ} → before ≡ layer_at (map f xs) k
+      → IsTable n k word (map f xs)
       → length before ≡ n
   layer_states {n} {k} {word} xs read t = ap length read ∙ (t.layer k (omega arith)).states
 
@@ -136,8 +140,9 @@ module _ {X : Type 0} (f : X → List ℕ) where
       (table_grows n k (k + 1) word (map f xs) (f x) more t (subst (λ (m : ℕ). IsLayer n (word m) (f x)) (sym more) next))
 
   -- so do a plan's two tables
-  module _ (plan : PlanLists) {rows : List RowLists} {sets : SetLists} (same_rows : rows ≡ plan.frame.rows) (same_sets : sets ≡ plan.frame.sets)
-      (k : ℕ) (xs : List X) (x : X) {ys : List X} {before : List ℕ} (grown : ys ≡ xs ++ x ∷ []) (read : before ≡ layer_at (map f xs) k) where
+  module _ (plan : PlanLists) {rows : List RowLists} {sets : SetLists}
+      (same_rows : rows ≡ plan.frame.rows) (same_sets : sets ≡ plan.frame.sets) (k : ℕ) (xs : List X) (x : X)
+      {ys : List X} {before : List ℕ} (grown : ys ≡ xs ++ x ∷ []) (read : before ≡ layer_at (map f xs) k) where
     pub low_grows : IsTable (length plan.frame.rows) k (plan_low plan) (map f xs)
         → IsLayer (length rows) (row_low (frame_rows rows) (holds_at sets.live_must) (holds_at sets.goal_must) (slice_index before)) (f x)
         → IsTable (length plan.frame.rows) (k + 1) (plan_low plan) (map f ys)

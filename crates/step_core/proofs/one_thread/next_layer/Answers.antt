@@ -18,13 +18,15 @@ loop-state-preserved c =
     let row = c.index-rows-state.result in
     let inside : s < length rows = omega arith in
     let here : row ≡ row_at rows s = c.index-rows-state.is ∙ get_or_default rows s _ _ inside in
-    let sound : IsSoundRow (length rows) row = subst (IsSoundRow (length rows)) (sym c.index-rows-state.is) (c.requires.rows s row inside) in
+    let sound : IsSoundRow (length rows) row =
+    subst (IsSoundRow (length rows)) (sym c.index-rows-state.is) (c.requires.rows s row inside) in
     record {
       low_states = search rules;
       low =
           one_more_place
           (row_low (frame_rows rows) (holds_at sets.live_must) (holds_at sets.goal_must) (slice_index c.args.low.now))
-          c.loop-state.next_low.items s c.both_words-low_word.result.0 (omega (arith, c.loop-state.invariant.low_states)) c.loop-state.invariant.low
+          c.loop-state.next_low.items s c.both_words-low_word.result.0 (omega (arith, c.loop-state.invariant.low_states))
+          c.loop-state.invariant.low
           (low_is rows (holds_at sets.live_must) (holds_at sets.goal_must) c.args.low.now s here
           (truth_at c.index.ensures (ap (λ f. f.goal_must) c.sets.view_is) (omega (arith, c.requires.sets.goal_must_states)))
           (truth_at c.index-in-loop-state.ensures (ap (λ f. f.live_must) c.sets.view_is) (omega (arith, c.requires.sets.live_must_states)))
@@ -35,7 +37,8 @@ loop-state-preserved c =
       high =
           one_more_place
           (row_high (frame_rows rows) (holds_at sets.live_may) (holds_at sets.goal_may) (slice_index c.args.high.now))
-          c.loop-state.next_high.items s c.both_words-low_word.result.1 (omega (arith, c.loop-state.invariant.high_states)) c.loop-state.invariant.high
+          c.loop-state.next_high.items s c.both_words-low_word.result.1 (omega (arith, c.loop-state.invariant.high_states))
+          c.loop-state.invariant.high
           (high_is rows (holds_at sets.live_may) (holds_at sets.goal_may) c.args.high.now s here
           (truth_at c.index-in-loop-state-2.ensures (ap (λ f. f.goal_may) c.sets.view_is) (omega (arith, c.requires.sets.goal_may_states)))
           (truth_at c.index-in-loop-state-3.ensures (ap (λ f. f.live_may) c.sets.view_is) (omega (arith, c.requires.sets.live_may_states)))

@@ -1,6 +1,7 @@
-use Rattle.std.proofs.Common.{◌≡◌, ◌≤◌, ◌^◌, ◌∙◌, ◌∷◌, [], ◌++◌, All, length, map, ap, sym, subst, arith}
+use Rattle.std.proofs.Common.{◌≡◌, ◌≤◌, ◌^◌, ◌∙◌, ◌∷◌, [], ◌++◌, All, length, map, ap, sym, subst}
 use Rattle.step_core.specs.PlanTables.{layer_at}
-use Rattle.step_core.proofs.Layers.{layer_read, layer_states, last_layer, low_grows, high_grows, first_low, first_high, set_layer_le, words_le}
+use Rattle.step_core.proofs.Layers.{layer_read, layer_states, last_layer, low_grows, high_grows, first_low, first_high, set_layer_le}
+use Rattle.step_core.proofs.Layers.{words_le}
 use Rattle.step_core.proofs.one_thread.plain_tables.Goals as goal
 
 pub next_layer-requires-clause-low_states : goal.next_layer-requires-clause-low_states
@@ -14,7 +15,8 @@ next_layer-requires-clause-low_states c =
 pub next_layer-requires-clause-high_states : goal.next_layer-requires-clause-high_states
 next_layer-requires-clause-high_states c =
     let read =
-    layer_read (λ v. v.items) c.loop-layer.high.items c.loop-layer.layer c.deref-in-loop-layer-3.ensures.value c.index-in-loop-layer.ensures
+    layer_read (λ v. v.items) c.loop-layer.high.items c.loop-layer.layer c.deref-in-loop-layer-3.ensures.value
+    c.index-in-loop-layer.ensures
     c.loop-layer.invariant.high.layers in
     let rows = c.deref-in-loop-layer.ensures.value ∙ (ap (λ f. f.rows) c.frame.view_is ∙ ap (λ p. p.frame.rows) c.plan.view_is) in
     layer_states (λ v. v.items) c.loop-layer.high.items read c.loop-layer.invariant.high ∙ sym (ap length rows)
@@ -29,7 +31,8 @@ next_layer-requires-clause-low_words c =
 pub next_layer-requires-clause-high_words : goal.next_layer-requires-clause-high_words
 next_layer-requires-clause-high_words c =
     let read =
-    layer_read (λ v. v.items) c.loop-layer.high.items c.loop-layer.layer c.deref-in-loop-layer-3.ensures.value c.index-in-loop-layer.ensures
+    layer_read (λ v. v.items) c.loop-layer.high.items c.loop-layer.layer c.deref-in-loop-layer-3.ensures.value
+    c.index-in-loop-layer.ensures
     c.loop-layer.invariant.high.layers in
     subst (All (λ w. w ≤ 2 ^ 62)) (sym read) c.loop-layer.invariant.high_words
 
@@ -54,7 +57,8 @@ loop-layer-init c =
       high = first_high (λ v. v.items) plan high_items start sound.start_states;
       high_words =
           subst (λ xs. All (λ w. w ≤ 2 ^ 62) (layer_at (map (λ v. v.items) xs) 0)) (sym high_items)
-          (subst (All (λ w. w ≤ 2 ^ 62)) (sym start) (words_le (length plan.frame.rows) plan.start_upper _ sound.start_states sound.start));
+          (subst (All (λ w. w ≤ 2 ^ 62)) (sym start)
+          (words_le (length plan.frame.rows) plan.start_upper _ sound.start_states sound.start));
     }
 
 pub loop-layer-preserved : goal.loop-layer-preserved
@@ -64,7 +68,8 @@ loop-layer-preserved c =
     layer_read (λ v. v.items) c.loop-layer.low.items c.loop-layer.layer c.deref-in-loop-layer-2.ensures.value c.index.ensures
     c.loop-layer.invariant.low.layers in
     let high_read =
-    layer_read (λ v. v.items) c.loop-layer.high.items c.loop-layer.layer c.deref-in-loop-layer-3.ensures.value c.index-in-loop-layer.ensures
+    layer_read (λ v. v.items) c.loop-layer.high.items c.loop-layer.layer c.deref-in-loop-layer-3.ensures.value
+    c.index-in-loop-layer.ensures
     c.loop-layer.invariant.high.layers in
     let rows = c.deref-in-loop-layer.ensures.value ∙ (ap (λ f. f.rows) c.frame.view_is ∙ ap (λ p. p.frame.rows) c.plan.view_is) in
     let sets = ap (λ f. f.sets) c.frame.view_is ∙ ap (λ p. p.frame.sets) c.plan.view_is in
