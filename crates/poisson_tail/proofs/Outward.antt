@@ -62,7 +62,13 @@ module _ (load : Fraction) (k : ℕ) where
   low_weight-below l =
       let more : mode load - k ≡ suc (mode load - (k + 1)) = omega arith in
       let back : mode load - (mode load - (k + 1)) ≡ k + 1 = omega arith in
-      rw (low_weight-to_mode load k (omega arith), low_weight-to_mode load (k + 1) (omega arith), more, back, add-one (fine_load load)) refl
+      rw (
+        low_weight-to_mode load k (omega arith),
+        low_weight-to_mode load (k + 1) (omega arith),
+        more,
+        back,
+        add-one (fine_load load),
+      ) refl
 
   pub high_weight-below : k < mode load → high_weight load k ≡ div_ceil (high_weight load (k + 1) * (k + 1) * 2 ^ 50) (fine_load load)
   high_weight-below l =
@@ -72,10 +78,12 @@ module _ (load : Fraction) (k : ℕ) where
 
 -- the mode's own weights are 1
 pub low_weight-mode : (load : Fraction) → low_weight load (mode load) ≡ one_word
-low_weight-mode load = let none : mode load - mode load ≡ 0 = sub_self (mode load) in rw (low_weight-to_mode load (mode load) (omega arith), none) refl
+low_weight-mode load =
+    let none : mode load - mode load ≡ 0 = sub_self (mode load) in rw (low_weight-to_mode load (mode load) (omega arith), none) refl
 
 pub high_weight-mode : (load : Fraction) → high_weight load (mode load) ≡ one_word
-high_weight-mode load = let none : mode load - mode load ≡ 0 = sub_self (mode load) in rw (high_weight-to_mode load (mode load) (omega arith), none) refl
+high_weight-mode load =
+    let none : mode load - mode load ≡ 0 = sub_self (mode load) in rw (high_weight-to_mode load (mode load) (omega arith), none) refl
 
 -- ---- no weight is above 1
 pub low_weight-at_most_one : (load : Fraction) (k : ℕ) → 0 < load.den → low_weight load k ≤ one_word

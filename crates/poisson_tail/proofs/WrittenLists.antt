@@ -1,5 +1,6 @@
 -- Lists that are written outward from the mode.
-use Rattle.std.proofs.Common.{◌≡◌, ℕ, suc, ◌+◌, ◌-◌, ◌*◌, ◌/◌, ◌^◌, ◌≤◌, ◌<◌, ◌≢◌, List, ◌++◌, length, get_or, set, take, drop, sym, ◌∙◌, arith, add-one, get_or-set_other, get_or-set_same}
+use Rattle.std.proofs.Common.{◌≡◌, ℕ, ◌+◌, ◌-◌, ◌*◌, ◌/◌, ◌^◌, ◌≤◌, ◌<◌, ◌≢◌, List, ◌++◌, length, get_or, set, take, drop, sym, ◌∙◌}
+use Rattle.std.proofs.Common.{arith, add-one, get_or-set_other, get_or-set_same}
 use Rattle.std.proofs.Math.Decide.{dec_le}
 use Rattle.std.proofs.Math.Seq.{take-append_seam}
 use Rattle.std.specs.Int.{div_ceil}
@@ -9,8 +10,8 @@ use Rattle.ctmc_semantics.proofs.ColumnLemmas.{one_more_place}
 use Rattle.ctmc_semantics.proofs.WeightsNear.{ordered}
 use Rattle.step_core.specs.PlanLoad.{AreWeightsOf}
 use Rattle.step_core.specs.SoundPlan.{AreSoundWeights}
-use Rattle.step_core.specs.WeightLists.{WeightLists}
-use Rattle.poisson_tail.proofs.Outward.{low_weight-above, high_weight-above, low_weight-below, high_weight-below, low_weight-mode, high_weight-mode, high_weight-at_most_one}
+use Rattle.poisson_tail.proofs.Outward.{low_weight-above, high_weight-above, low_weight-below, high_weight-below, low_weight-mode}
+use Rattle.poisson_tail.proofs.Outward.{high_weight-mode, high_weight-at_most_one}
 
 -- ---- one word more: f the words that the list is to have
 at_place : (f : ℕ → ℕ) (xs : List ℕ) (p v j : ℕ) → j ≡ p → p < length xs → v ≡ f p → get_or (set xs p v) j 0 ≡ f j

@@ -5,11 +5,13 @@ use Rattle.poisson_tail.proofs.lists.write_above_mode.Goals as goal
 
 pub low_upward-requires-clause-word : goal.low_upward-requires-clause-word
 low_upward-requires-clause-word c =
-    rw (c.loop-k.invariant.low (c.loop-k.k - 1) (omega arith)) (low_weight-at_most_one c.args.load.now (c.loop-k.k - 1) c.mode-mode.ensures.divisor)
+    rw (c.loop-k.invariant.low (c.loop-k.k - 1) (omega arith))
+    (low_weight-at_most_one c.args.load.now (c.loop-k.k - 1) c.mode-mode.ensures.divisor)
 
 pub high_upward-requires-clause-word : goal.high_upward-requires-clause-word
 high_upward-requires-clause-word c =
-    rw (c.loop-k.invariant.high (c.loop-k.k - 1) (omega arith)) (high_weight-at_most_one c.args.load.now (c.loop-k.k - 1) c.mode-mode.ensures.divisor)
+    rw (c.loop-k.invariant.high (c.loop-k.k - 1) (omega arith))
+    (high_weight-at_most_one c.args.load.now (c.loop-k.k - 1) c.mode-mode.ensures.divisor)
 
 pub loop-k-preserved : goal.loop-k-preserved
 loop-k-preserved c =
