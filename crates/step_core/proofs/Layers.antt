@@ -101,11 +101,16 @@ words_le n xs set e h k d l =
 
 module _ {X : Type 0} (f : X → List ℕ) where
   -- what a read of a list of layers gives
-  pub layer_read : (xs : List X) (k : ℕ) {v : X} {before : List ℕ} → before ≡ f v → v ≡ get_or xs k v → length (map f xs) ≡ suc k
-      → before ≡ layer_at (map f xs) k
-  layer_read xs k {v} {before} e read len =
-      let inside : k < length xs = omega (arith, length-map xs f) in
+  pub layer_read : (xs : List X) {n k : ℕ} {word : ℕ → ℕ → ℕ} {v : X} {before : List ℕ} → before ≡ f v → v ≡ get_or xs k v
+      → IsTable n k word (map f xs) → before ≡ layer_at (map f xs) k
+  layer_read xs {n} {k} {word} {v} {before} e read t =
+      let inside : k < length xs = omega (arith, length-map xs f, t.layers) in
       e ∙ (ap f read ∙ sym (get_or-map f xs k v [] inside))
+
+  -- it has a word for each state
+  pub layer_states : (xs : List X) {n k : ℕ} {word : ℕ → ℕ → ℕ} {v : X} {before : List ℕ} → before ≡ f v → v ≡ get_or xs k v
+      → IsTable n k word (map f xs) → length before ≡ n
+  layer_states xs {n} {k} e read t = ap length (layer_read xs e read t) ∙ (t.layer k (omega arith)).states
 
   -- the last layer of a table that has grown
   pub last_layer : (xs : List X) {ys : List X} (x : X) {k : ℕ} → ys ≡ xs ++ x ∷ [] → length (map f xs) ≡ suc k
@@ -115,12 +120,6 @@ module _ {X : Type 0} (f : X → List ℕ) where
       let here : get_or (map f xs ++ f x ∷ []) (k + 1) [] ≡ f x =
       subst (λ (m : ℕ). get_or (map f xs ++ f x ∷ []) m [] ≡ f x) seam (get_or-append_seam (map f xs) (f x) [] []) in
       rw (grown, map-append f xs (x ∷ [])) here
-
-  -- the layer that is read has a word for each state
-  pub layer_states : {n k : ℕ} {word : ℕ → ℕ → ℕ} (xs : List X) {before : List ℕ} → before ≡ layer_at (map f xs) k
-      → IsTable n k word (map f xs)
-      → length before ≡ n
-  layer_states {n} {k} {word} xs read t = ap length read ∙ (t.layer k (omega arith)).states
 
   -- a table grows by the row values over its last layer, where a row value reads the words of the states alone
   grows : (n : ℕ) (row : (ℕ → ℕ) → ℕ → ℕ) (word : ℕ → ℕ → ℕ)
@@ -147,19 +146,17 @@ module _ {X : Type 0} (f : X → List ℕ) where
         → IsLayer (length rows) (row_low (frame_rows rows) (holds_at sets.live_must) (holds_at sets.goal_must) (slice_index before)) (f x)
         → IsTable (length plan.frame.rows) (k + 1) (plan_low plan) (map f ys)
     low_grows t h =
-        let live = holds_at plan.frame.sets.live_must in
-        let goals = holds_at plan.frame.sets.goal_must in
-        grows (length plan.frame.rows) (row_low (frame_rows plan.frame.rows) live goals) (plan_low plan)
-        (row_low-same (frame_rows plan.frame.rows) live goals) k (λ s. refl) xs ys x before grown read t (rw (same_rows, same_sets) at h)
+        grows (length plan.frame.rows) _ (plan_low plan)
+        (row_low-same (frame_rows plan.frame.rows) (holds_at plan.frame.sets.live_must) (holds_at plan.frame.sets.goal_must)) k (λ s. refl)
+        xs ys x before grown read t (rw (same_rows, same_sets) at h)
 
     pub high_grows : IsTable (length plan.frame.rows) k (plan_high plan) (map f xs)
         → IsLayer (length rows) (row_high (frame_rows rows) (holds_at sets.live_may) (holds_at sets.goal_may) (slice_index before)) (f x)
         → IsTable (length plan.frame.rows) (k + 1) (plan_high plan) (map f ys)
     high_grows t h =
-        let live = holds_at plan.frame.sets.live_may in
-        let goals = holds_at plan.frame.sets.goal_may in
-        grows (length plan.frame.rows) (row_high (frame_rows plan.frame.rows) live goals) (plan_high plan)
-        (row_high-same (frame_rows plan.frame.rows) live goals) k (λ s. refl) xs ys x before grown read t (rw (same_rows, same_sets) at h)
+        grows (length plan.frame.rows) _ (plan_high plan)
+        (row_high-same (frame_rows plan.frame.rows) (holds_at plan.frame.sets.live_may) (holds_at plan.frame.sets.goal_may)) k (λ s. refl)
+        xs ys x before grown read t (rw (same_rows, same_sets) at h)
 
   -- the first layers of a plan's tables
   pub first_low : (plan : PlanLists) {ys : List X} {x : X} → ys ≡ x ∷ [] → {goals : List Bool}

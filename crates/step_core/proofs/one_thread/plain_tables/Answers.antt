@@ -6,35 +6,30 @@ use Rattle.step_core.proofs.one_thread.plain_tables.Goals as goal
 
 pub next_layer-requires-clause-low_states : goal.next_layer-requires-clause-low_states
 next_layer-requires-clause-low_states c =
-    let read =
-    layer_read (λ v. v.items) c.loop-layer.low.items c.loop-layer.layer c.deref-in-loop-layer-2.ensures.value c.index.ensures
-    c.loop-layer.invariant.low.layers in
-    let rows = c.deref-in-loop-layer.ensures.value ∙ (ap (λ f. f.rows) c.frame.view_is ∙ ap (λ p. p.frame.rows) c.plan.view_is) in
-    layer_states (λ v. v.items) c.loop-layer.low.items read c.loop-layer.invariant.low ∙ sym (ap length rows)
+    let rows =
+    c.deref-in-loop-layer.ensures.value ∙ (ap (λ f. f.rows) c.frame.view_is ∙ ap (λ p. p.frame.rows) c.plan.view_is) in
+    layer_states (λ v. v.items) c.loop-layer.low.items c.deref-in-loop-layer-2.ensures.value c.index.ensures c.loop-layer.invariant.low
+    ∙ sym (ap length rows)
 
 pub next_layer-requires-clause-high_states : goal.next_layer-requires-clause-high_states
 next_layer-requires-clause-high_states c =
-    let read =
-    layer_read (λ v. v.items) c.loop-layer.high.items c.loop-layer.layer c.deref-in-loop-layer-3.ensures.value
-    c.index-in-loop-layer.ensures
-    c.loop-layer.invariant.high.layers in
-    let rows = c.deref-in-loop-layer.ensures.value ∙ (ap (λ f. f.rows) c.frame.view_is ∙ ap (λ p. p.frame.rows) c.plan.view_is) in
-    layer_states (λ v. v.items) c.loop-layer.high.items read c.loop-layer.invariant.high ∙ sym (ap length rows)
+    let rows =
+    c.deref-in-loop-layer.ensures.value ∙ (ap (λ f. f.rows) c.frame.view_is ∙ ap (λ p. p.frame.rows) c.plan.view_is) in
+    layer_states (λ v. v.items) c.loop-layer.high.items c.deref-in-loop-layer-3.ensures.value c.index-in-loop-layer.ensures
+    c.loop-layer.invariant.high ∙ sym (ap length rows)
 
 pub next_layer-requires-clause-low_words : goal.next_layer-requires-clause-low_words
 next_layer-requires-clause-low_words c =
-    let read =
-    layer_read (λ v. v.items) c.loop-layer.low.items c.loop-layer.layer c.deref-in-loop-layer-2.ensures.value c.index.ensures
-    c.loop-layer.invariant.low.layers in
-    subst (All (λ w. w ≤ 2 ^ 62)) (sym read) c.loop-layer.invariant.low_words
+    let at =
+    layer_read (λ v. v.items) c.loop-layer.low.items c.deref-in-loop-layer-2.ensures.value c.index.ensures c.loop-layer.invariant.low in
+    subst (All (λ w. w ≤ 2 ^ 62)) (sym at) c.loop-layer.invariant.low_words
 
 pub next_layer-requires-clause-high_words : goal.next_layer-requires-clause-high_words
 next_layer-requires-clause-high_words c =
-    let read =
-    layer_read (λ v. v.items) c.loop-layer.high.items c.loop-layer.layer c.deref-in-loop-layer-3.ensures.value
-    c.index-in-loop-layer.ensures
-    c.loop-layer.invariant.high.layers in
-    subst (All (λ w. w ≤ 2 ^ 62)) (sym read) c.loop-layer.invariant.high_words
+    let at =
+    layer_read (λ v. v.items) c.loop-layer.high.items c.deref-in-loop-layer-3.ensures.value c.index-in-loop-layer.ensures
+    c.loop-layer.invariant.high in
+    subst (All (λ w. w ≤ 2 ^ 62)) (sym at) c.loop-layer.invariant.high_words
 
 pub loop-layer-init : goal.loop-layer-init
 loop-layer-init c =
@@ -64,13 +59,9 @@ loop-layer-init c =
 pub loop-layer-preserved : goal.loop-layer-preserved
 loop-layer-preserved c =
     let inv = c.loop-layer.invariant in
-    let low_read =
-    layer_read (λ v. v.items) c.loop-layer.low.items c.loop-layer.layer c.deref-in-loop-layer-2.ensures.value c.index.ensures
-    c.loop-layer.invariant.low.layers in
+    let low_read = layer_read (λ v. v.items) c.loop-layer.low.items c.deref-in-loop-layer-2.ensures.value c.index.ensures inv.low in
     let high_read =
-    layer_read (λ v. v.items) c.loop-layer.high.items c.loop-layer.layer c.deref-in-loop-layer-3.ensures.value
-    c.index-in-loop-layer.ensures
-    c.loop-layer.invariant.high.layers in
+    layer_read (λ v. v.items) c.loop-layer.high.items c.deref-in-loop-layer-3.ensures.value c.index-in-loop-layer.ensures inv.high in
     let rows = c.deref-in-loop-layer.ensures.value ∙ (ap (λ f. f.rows) c.frame.view_is ∙ ap (λ p. p.frame.rows) c.plan.view_is) in
     let sets = ap (λ f. f.sets) c.frame.view_is ∙ ap (λ p. p.frame.sets) c.plan.view_is in
     let low_last =
