@@ -9,7 +9,7 @@ use std::marker::Model;
 
 /// The load of a bounded until, as a fraction: the number of jumps that the uniformised chain is
 /// expected to make within the bound, which is its uniform rate times the time.
-/// (Jensen 1953; Baier, Haverkort, Hermanns, Katoen 2003, section 3.2)
+/// (Jensen 1953; Baier, Haverkort, Hermanns, Katoen 2003)
 #[derive(Clone, Copy, Debug)]
 pub struct Load {
     num: u128,

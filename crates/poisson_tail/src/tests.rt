@@ -1,4 +1,4 @@
-use super::{Load, horizon, weights};
+use super::{Load, MOST_LAYERS, horizon, weights};
 use round_out::ONE;
 use step_core::Weights;
 
@@ -179,7 +179,7 @@ fn weights_enclose_load_300(rt: HostRuntime) {
 
 #[test]
 fn weights_enclose_load_8177(rt: HostRuntime) {
-    let made = weights(rt.alloc(), &Load::new(8177, 1), 16384).expect(&rt, "memory");
+    let made = weights(rt.alloc(), &Load::new(8177, 1), MOST_LAYERS).expect(&rt, "memory");
     let exact = [
         (8174, 8176 * 8175, 8177 * 8177),
         (8175, 8176, 8177),
@@ -194,7 +194,7 @@ fn weights_enclose_load_8177(rt: HostRuntime) {
 
 #[test]
 fn weights_enclose_load_8192(rt: HostRuntime) {
-    let made = weights(rt.alloc(), &Load::new(8192, 1), 16384).expect(&rt, "memory");
+    let made = weights(rt.alloc(), &Load::new(8192, 1), MOST_LAYERS).expect(&rt, "memory");
     let exact = [
         (8189, 8191 * 8190, 8192 * 8192),
         (8190, 8191, 8192),

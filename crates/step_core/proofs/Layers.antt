@@ -1,5 +1,6 @@
 -- Layers of words: how a word of the next one is a row's value, and how a table grows.
-use Rattle.std.proofs.Common.{◌≡◌, ℕ, suc, ◌+◌, ◌*◌, ◌/◌, ◌≤◌, ◌<◌, Bool, true, false, map, List, [], ◌∷◌, ◌++◌, length, get_or, refl, ap, sym, ◌∙◌, subst, arith, length-append}
+use Rattle.std.proofs.Common.{◌≡◌, ℕ, suc, ◌+◌, ◌*◌, ◌/◌, ◌≤◌, ◌<◌, Bool, true, false, map, List, [], ◌∷◌, ◌++◌, length, get_or, refl, ap}
+use Rattle.std.proofs.Common.{sym, ◌∙◌, subst, arith, length-append}
 use Rattle.std.proofs.lemmas.List.{get_or-map, get_or_default, get_or_append_left, length-map, map-append}
 use Rattle.std.proofs.Math.ListN.{get_or-map as read_mapped}
 use Rattle.std.proofs.Math.Seq.{get_or-append_seam}
@@ -17,7 +18,7 @@ use Rattle.step_core.specs.PlanLists.{PlanLists}
 use Rattle.step_core.specs.PlanTables.{IsLayer, IsTable, layer_at, plan_low, plan_high}
 use Rattle.step_core.proofs.Entries.{entries_sum}
 
-module _ (rows : List RowLists) (live goal : ℕ → Bool) (xs : List ℕ) (s : ℕ) (row : RowLists) (is_goal is_live : Bool) (v : ℕ)
+module _ (rows : List RowLists) (live goal : ℕ → Bool) (xs : List ℕ) (s : ℕ) {row : RowLists} {is_goal is_live : Bool} {v : ℕ}
     (here : row ≡ row_at rows s) (g : is_goal ≡ goal s) (l : is_live ≡ live s)
     (targets : All (λ e. e.to < length rows) row.entries) where
   pub low_is : v ≡ (if is_goal then one_word else (if is_live then sum_by (λ e. e.num * slice_index xs e.to) row.entries / row.den else 0))
@@ -26,15 +27,16 @@ module _ (rows : List RowLists) (live goal : ℕ → Bool) (xs : List ℕ) (s : 
       let sums = entries_sum (length rows) row.entries (slice_index xs) targets in
       e ∙ rw (sums, here, g, l) refl
 
-  pub high_is : v ≡ (if is_goal then one_word else (if is_live then div_ceil (sum_by (λ e. e.num * slice_index xs e.to) row.entries) row.den else 0))
+  pub high_is : v
+      ≡ (if is_goal then one_word else (if is_live then div_ceil (sum_by (λ e. e.num * slice_index xs e.to) row.entries) row.den else 0))
       → v ≡ row_high (frame_rows rows) live goal (slice_index xs) s
   high_is e =
       let sums = entries_sum (length rows) row.entries (slice_index xs) targets in
       e ∙ rw (sums, here, g, l) refl
 
 -- what a read of a list of truth values gives
-pub truth_at : (xs ys : List Bool) (s : ℕ) (b : Bool) → b ≡ get_or xs s b → xs ≡ ys → s < length ys → b ≡ holds_at ys s
-truth_at xs ys s b e same l = e ∙ (ap (λ z. get_or z s b) same ∙ get_or_default ys s b false l)
+pub truth_at : {xs ys : List Bool} {s : ℕ} {b : Bool} → b ≡ get_or xs s b → xs ≡ ys → s < length ys → b ≡ holds_at ys s
+truth_at {xs} {ys} {s} {b} e same l = e ∙ (ap (λ z. get_or z s b) same ∙ get_or_default ys s b false l)
 
 -- a row's value reads the words of the states alone
 pub row_low-same : (r : Rows) (live goal : ℕ → Bool) (x y : ℕ → ℕ) → ((t : ℕ) → t < r.states → x t ≡ y t) → (s : ℕ)
@@ -79,7 +81,8 @@ pub set_word_le : (b : Bool) → (if b then one_word else 0) ≤ one_word
 set_word_le true = omega arith
 set_word_le false = omega arith
 
-pub set_layer : (n : ℕ) (set : List Bool) → length set ≡ n → IsLayer n (set_words (holds_at set)) (map (λ holds. if holds then one_word else 0) set)
+pub set_layer : (n : ℕ) (set : List Bool) → length set ≡ n
+    → IsLayer n (set_words (holds_at set)) (map (λ holds. if holds then one_word else 0) set)
 set_layer n set e = record {
   states = length-map set (λ holds. if holds then one_word else 0) ∙ e;
   words = λ s l. read_mapped (λ holds. if holds then one_word else 0) set s false;
@@ -98,72 +101,73 @@ words_le n xs set e h k d l =
 
 module _ {X : Type 0} (f : X → List ℕ) where
   -- what a read of a list of layers gives
-  pub layer_read : (xs : List X) (k : ℕ) (v : X) (before : List ℕ) → before ≡ f v → v ≡ get_or xs k v → length (map f xs) ≡ suc k
-      → before ≡ layer_at (map f xs) k
-  layer_read xs k v before e read len =
-      let inside : k < length xs = omega (arith, length-map xs f) in
+  pub layer_read : (xs : List X) {n k : ℕ} {word : ℕ → ℕ → ℕ} {v : X} {before : List ℕ} → before ≡ f v → v ≡ get_or xs k v
+      → IsTable n k word (map f xs) → before ≡ layer_at (map f xs) k
+  layer_read xs {n} {k} {word} {v} {before} e read t =
+      let inside : k < length xs = omega (arith, length-map xs f, t.layers) in
       e ∙ (ap f read ∙ sym (get_or-map f xs k v [] inside))
 
+  -- it has a word for each state
+  pub layer_states : (xs : List X) {n k : ℕ} {word : ℕ → ℕ → ℕ} {v : X} {before : List ℕ} → before ≡ f v → v ≡ get_or xs k v
+      → IsTable n k word (map f xs) → length before ≡ n
+  layer_states xs {n} {k} e read t = ap length (layer_read xs e read t) ∙ (t.layer k (omega arith)).states
+
   -- the last layer of a table that has grown
-  pub last_layer : (xs ys : List X) (x : X) (k : ℕ) → ys ≡ xs ++ x ∷ [] → length (map f xs) ≡ suc k → layer_at (map f ys) (k + 1) ≡ f x
-  last_layer xs ys x k grown len =
+  pub last_layer : (xs : List X) {ys : List X} (x : X) {k : ℕ} → ys ≡ xs ++ x ∷ [] → length (map f xs) ≡ suc k
+      → layer_at (map f ys) (k + 1) ≡ f x
+  last_layer xs {ys} x {k} grown len =
       let seam : length (map f xs) ≡ k + 1 = omega arith in
       let here : get_or (map f xs ++ f x ∷ []) (k + 1) [] ≡ f x =
       subst (λ (m : ℕ). get_or (map f xs ++ f x ∷ []) m [] ≡ f x) seam (get_or-append_seam (map f xs) (f x) [] []) in
       rw (grown, map-append f xs (x ∷ [])) here
 
-  module _ (plan : PlanLists) (rows : List RowLists) (sets : SetLists) (same_rows : rows ≡ plan.frame.rows) (same_sets : sets ≡ plan.frame.sets)
-      (k : ℕ) (xs ys : List X) (x : X) (before : List ℕ) (grown : ys ≡ xs ++ x ∷ []) (read : before ≡ layer_at (map f xs) k) where
+  -- a table grows by the row values over its last layer, where a row value reads the words of the states alone
+  grows : (n : ℕ) (row : (ℕ → ℕ) → ℕ → ℕ) (word : ℕ → ℕ → ℕ)
+      → ((x y : ℕ → ℕ) → ((t : ℕ) → t < n → x t ≡ y t) → (s : ℕ) → row x s ≡ row y s)
+      → (k : ℕ) → ((s : ℕ) → row (word k) s ≡ word (suc k) s)
+      → (xs ys : List X) (x : X) (before : List ℕ) → ys ≡ xs ++ x ∷ [] → before ≡ layer_at (map f xs) k
+      → IsTable n k word (map f xs) → IsLayer n (row (slice_index before)) (f x) → IsTable n (k + 1) word (map f ys)
+  grows n row word reads k step xs ys x before grown read t h =
+      let words : (s : ℕ) → s < n → slice_index before s ≡ word k s =
+      λ s l. ap (λ z. slice_index z s) read ∙ (t.layer k (omega arith)).words s l in
+      let next : IsLayer n (word (suc k)) (f x) = record {
+        states = h.states;
+        words = λ s l. h.words s l ∙ (reads (slice_index before) (word k) words s ∙ step s);
+      } in
+      let more : k + 1 ≡ suc k = omega arith in
+      rw (grown, map-append f xs (x ∷ []))
+      (table_grows n k (k + 1) word (map f xs) (f x) more t (subst (λ (m : ℕ). IsLayer n (word m) (f x)) (sym more) next))
+
+  -- so do a plan's two tables
+  module _ (plan : PlanLists) {rows : List RowLists} {sets : SetLists}
+      (same_rows : rows ≡ plan.frame.rows) (same_sets : sets ≡ plan.frame.sets) (k : ℕ) (xs : List X) (x : X)
+      {ys : List X} {before : List ℕ} (grown : ys ≡ xs ++ x ∷ []) (read : before ≡ layer_at (map f xs) k) where
     pub low_grows : IsTable (length plan.frame.rows) k (plan_low plan) (map f xs)
         → IsLayer (length rows) (row_low (frame_rows rows) (holds_at sets.live_must) (holds_at sets.goal_must) (slice_index before)) (f x)
         → IsTable (length plan.frame.rows) (k + 1) (plan_low plan) (map f ys)
     low_grows t h =
-        let live = holds_at plan.frame.sets.live_must in
-        let goals = holds_at plan.frame.sets.goal_must in
-        let there : IsLayer (length plan.frame.rows) (row_low (frame_rows plan.frame.rows) live goals (slice_index before)) (f x) =
-        subst (λ (q : SetLists). IsLayer (length plan.frame.rows) (row_low (frame_rows plan.frame.rows) (holds_at q.live_must) (holds_at q.goal_must) (slice_index before)) (f x)) same_sets
-        (subst (λ (q : List RowLists). IsLayer (length q) (row_low (frame_rows q) (holds_at sets.live_must) (holds_at sets.goal_must) (slice_index before)) (f x)) same_rows h) in
-        let words : (s : ℕ) → s < length plan.frame.rows → slice_index before s ≡ plan_low plan k s =
-        λ s l. ap (λ z. slice_index z s) read ∙ (t.layer k (omega arith)).words s l in
-        let next : IsLayer (length plan.frame.rows) (plan_low plan (suc k)) (f x) = record {
-          states = there.states;
-          words = λ s l. there.words s l ∙ row_low-same (frame_rows plan.frame.rows) live goals (slice_index before) (plan_low plan k) words s;
-        } in
-        let more : k + 1 ≡ suc k = omega arith in
-        rw (grown, map-append f xs (x ∷ []))
-        (table_grows (length plan.frame.rows) k (k + 1) (plan_low plan) (map f xs) (f x) more t
-        (subst (λ (m : ℕ). IsLayer (length plan.frame.rows) (plan_low plan m) (f x)) (sym more) next))
+        grows (length plan.frame.rows) _ (plan_low plan)
+        (row_low-same (frame_rows plan.frame.rows) (holds_at plan.frame.sets.live_must) (holds_at plan.frame.sets.goal_must)) k (λ s. refl)
+        xs ys x before grown read t (rw (same_rows, same_sets) at h)
 
     pub high_grows : IsTable (length plan.frame.rows) k (plan_high plan) (map f xs)
         → IsLayer (length rows) (row_high (frame_rows rows) (holds_at sets.live_may) (holds_at sets.goal_may) (slice_index before)) (f x)
         → IsTable (length plan.frame.rows) (k + 1) (plan_high plan) (map f ys)
     high_grows t h =
-        let live = holds_at plan.frame.sets.live_may in
-        let goals = holds_at plan.frame.sets.goal_may in
-        let there : IsLayer (length plan.frame.rows) (row_high (frame_rows plan.frame.rows) live goals (slice_index before)) (f x) =
-        subst (λ (q : SetLists). IsLayer (length plan.frame.rows) (row_high (frame_rows plan.frame.rows) (holds_at q.live_may) (holds_at q.goal_may) (slice_index before)) (f x)) same_sets
-        (subst (λ (q : List RowLists). IsLayer (length q) (row_high (frame_rows q) (holds_at sets.live_may) (holds_at sets.goal_may) (slice_index before)) (f x)) same_rows h) in
-        let words : (s : ℕ) → s < length plan.frame.rows → slice_index before s ≡ plan_high plan k s =
-        λ s l. ap (λ z. slice_index z s) read ∙ (t.layer k (omega arith)).words s l in
-        let next : IsLayer (length plan.frame.rows) (plan_high plan (suc k)) (f x) = record {
-          states = there.states;
-          words = λ s l. there.words s l ∙ row_high-same (frame_rows plan.frame.rows) live goals (slice_index before) (plan_high plan k) words s;
-        } in
-        let more : k + 1 ≡ suc k = omega arith in
-        rw (grown, map-append f xs (x ∷ []))
-        (table_grows (length plan.frame.rows) k (k + 1) (plan_high plan) (map f xs) (f x) more t
-        (subst (λ (m : ℕ). IsLayer (length plan.frame.rows) (plan_high plan m) (f x)) (sym more) next))
+        grows (length plan.frame.rows) _ (plan_high plan)
+        (row_high-same (frame_rows plan.frame.rows) (holds_at plan.frame.sets.live_may) (holds_at plan.frame.sets.goal_may)) k (λ s. refl)
+        xs ys x before grown read t (rw (same_rows, same_sets) at h)
 
   -- the first layers of a plan's tables
-  pub first_low : (plan : PlanLists) (ys : List X) (x : X) → ys ≡ x ∷ [] → (goals : List Bool)
+  pub first_low : (plan : PlanLists) {ys : List X} {x : X} → ys ≡ x ∷ [] → {goals : List Bool}
       → f x ≡ map (λ holds. if holds then one_word else 0) goals → goals ≡ plan.frame.sets.goal_must
       → length plan.frame.sets.goal_must ≡ length plan.frame.rows → IsTable (length plan.frame.rows) 0 (plan_low plan) (map f ys)
-  first_low plan ys x e goals h same len =
+  first_low plan e h same len =
       rw (e, h, same)
       (first_table (length plan.frame.rows) (plan_low plan) _ (set_layer (length plan.frame.rows) plan.frame.sets.goal_must len))
 
-  pub first_high : (plan : PlanLists) (ys : List X) (x : X) → ys ≡ x ∷ [] → f x ≡ plan.start_upper
+  pub first_high : (plan : PlanLists) {ys : List X} {x : X} → ys ≡ x ∷ [] → f x ≡ plan.start_upper
       → length plan.start_upper ≡ length plan.frame.rows → IsTable (length plan.frame.rows) 0 (plan_high plan) (map f ys)
-  first_high plan ys x e h len =
+  first_high plan e h len =
       rw (e, h)
       (first_table (length plan.frame.rows) (plan_high plan) plan.start_upper record { states = len; words = λ s l. refl })

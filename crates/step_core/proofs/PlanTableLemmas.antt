@@ -88,7 +88,9 @@ module _ (plan : PlanLists) (tables : TableLists) (j : Jumps) (k s : ℕ) (sound
   bounded_high_rounds weights bits is =
       let start : (t : ℕ) → t < length plan.frame.rows → slice_index plan.start_upper t ≡ set_words goals t =
       λ t l. sound.start t l ∙ ap (λ m. set_words (starts_at_one m goals (holds_at plan.reach)) t) is in
-      let word = (are.high.layer k within).words s inside ∙ high_table-same rows live goals (slice_index plan.start_upper) (set_words goals) start k s inside in
+      let word =
+      (are.high.layer k within).words s inside
+      ∙ high_table-same rows live goals (slice_index plan.start_upper) (set_words goals) start k s inside in
       let exact = goal_starts j live goals k s in
       record {
         above = rw (word, ← exact) (high_over rows j stand live goals (set_words goals) k s inside);
@@ -102,7 +104,9 @@ module _ (plan : PlanLists) (tables : TableLists) (j : Jumps) (k s : ℕ) (sound
       let reach = holds_at plan.reach in
       let start : (t : ℕ) → t < length plan.frame.rows → slice_index plan.start_upper t ≡ set_words reach t =
       λ t l. sound.start t l ∙ ap (λ m. set_words (starts_at_one m goals reach) t) is in
-      let word = (are.high.layer k within).words s inside ∙ high_table-same rows live goals (slice_index plan.start_upper) (set_words reach) start k s inside in
+      let word =
+      (are.high.layer k within).words s inside
+      ∙ high_table-same rows live goals (slice_index plan.start_upper) (set_words reach) start k s inside in
       let closed : ReachesBack rows live goals reach = record {
         goal_in = λ t l h. sound.reach t l;
         back = λ t u l i g p h. sound.reach t l;

@@ -60,7 +60,8 @@ abbrev pub first_two : PlanLists
 first_two = record {
   frame = record {
     rows = row_of 1 (jump 1 1 ∷ []) ∷ row_of 1 (jump 1 1 ∷ []) ∷ [];
-    sets = record { goal_must = false ∷ true ∷ []; goal_may = false ∷ true ∷ []; live_must = true ∷ true ∷ []; live_may = true ∷ true ∷ [] };
+    sets =
+        record { goal_must = false ∷ true ∷ []; goal_may = false ∷ true ∷ []; live_must = true ∷ true ∷ []; live_may = true ∷ true ∷ [] };
   };
   layers = 4;
   start_upper = 0 ∷ 2 ^ 62 ∷ [];
@@ -167,8 +168,10 @@ first_four_sound = record {
     some = lit≤ tt;
     few = lit≤ tt;
     rows =
-        All-cons (IsSoundRow 4) (row_of 4 mixed_entries) (row_of 4 (jump 1 4 ∷ []) ∷ row_of 4 (jump 2 4 ∷ []) ∷ row_of 4 (jump 0 4 ∷ []) ∷ []) first_row
-        (All-cons (IsSoundRow 4) (row_of 4 (jump 1 4 ∷ [])) (row_of 4 (jump 2 4 ∷ []) ∷ row_of 4 (jump 0 4 ∷ []) ∷ []) (sure_row 4 4 1 (lit< tt) (lit< tt) (lit< tt))
+        All-cons (IsSoundRow 4) (row_of 4 mixed_entries)
+        (row_of 4 (jump 1 4 ∷ []) ∷ row_of 4 (jump 2 4 ∷ []) ∷ row_of 4 (jump 0 4 ∷ []) ∷ []) first_row
+        (All-cons (IsSoundRow 4) (row_of 4 (jump 1 4 ∷ [])) (row_of 4 (jump 2 4 ∷ []) ∷ row_of 4 (jump 0 4 ∷ []) ∷ [])
+        (sure_row 4 4 1 (lit< tt) (lit< tt) (lit< tt))
         (All-cons (IsSoundRow 4) (row_of 4 (jump 2 4 ∷ [])) (row_of 4 (jump 0 4 ∷ []) ∷ []) (sure_row 4 4 2 (lit< tt) (lit< tt) (lit< tt))
         (All-cons (IsSoundRow 4) (row_of 4 (jump 0 4 ∷ [])) [] (sure_row 4 4 0 (lit< tt) (lit< tt) (lit< tt)) (All-nil (IsSoundRow 4)))));
     sets = known_sets 4 (false ∷ true ∷ false ∷ false ∷ []) (true ∷ true ∷ true ∷ true ∷ []) refl refl;

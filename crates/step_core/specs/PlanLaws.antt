@@ -49,7 +49,8 @@ HighTableRounds =
     (plan : PlanLists) (tables : TableLists) (j : Jumps) (k s : ℕ)
     → IsSoundPlan plan → AreTablesOf plan tables → StandFor plan.frame.rows j → k ≤ plan.layers → s < length plan.frame.rows
     → RoundsUp (slice_index (layer_at tables.high k) s)
-    (exact_word j (holds_at plan.frame.sets.live_may) (holds_at plan.frame.sets.goal_may) (slice_index plan.start_upper) k s) (j.total ^ k) k
+    (exact_word j (holds_at plan.frame.sets.live_may) (holds_at plan.frame.sets.goal_may) (slice_index plan.start_upper) k s)
+    (j.total ^ k) k
 
 -- of a bounded until, the upper table rounds the probabilities over the sets that may hold up
 abbrev pub BoundedHighTableRounds : Type 0

@@ -8,7 +8,8 @@ use Rattle.step_core.specs.SoundFrame.{IsSoundFrame}
 use Rattle.step_core.specs.PlanLists.{PlanLists}
 use Rattle.step_core.specs.WeightLists.{WeightLists}
 
--- the weights of 0 to `last` jumps are sound: no low one is above its high one, none is above 1, and some number of jumps has 1 for both
+-- the weights of 0 to `last` jumps are sound: no low one is above its high one, none is above 1,
+-- and some number of jumps has 1 for both
 pub record AreSoundWeights (last : ℕ) (weights : WeightLists) : Type 0 where
   pub low_layers : length weights.low ≡ suc last
   pub high_layers : length weights.high ≡ suc last
@@ -19,7 +20,8 @@ pub record AreSoundWeights (last : ℕ) (weights : WeightLists) : Type 0 where
   pub mode_low : slice_index weights.low mode ≡ one_word
   pub mode_high : slice_index weights.high mode ≡ one_word
 
--- the weights are sound, and what is left past the last layer is below `2^-8` to `2^-48`
+-- the weights are sound, and `bits` is 8 to 48: the mix adds `2^-bits` to the upper word, for all that lies past the last layer
+-- (no more lies there where the last layer is the load's horizon for these bits, as `FitsPoisson` says)
 pub record IsSoundPoisson (last : ℕ) (weights : WeightLists) (bits : ℕ) : Type 0 where
   pub weights_sound : AreSoundWeights last weights
   pub some_bits : 8 ≤ bits
@@ -30,12 +32,14 @@ abbrev pub IsSoundMix : ℕ → Mix → Type 0
 IsSoundMix last (Poisson weights bits) = IsSoundPoisson last weights bits
 IsSoundMix last Last = Unit {0}
 
--- the states whose upper words start at 1: for a bounded until those that may be the goal, for an unbounded one those that can reach it
+-- the states whose upper words start at 1: for a bounded until those that may be the goal,
+-- for an unbounded one those that may reach it
 abbrev pub starts_at_one : Mix → (ℕ → Bool) → (ℕ → Bool) → ℕ → Bool
 starts_at_one (Poisson weights bits) goal reach = goal
 starts_at_one Last goal reach = reach
 
--- a plan is sound: it has 1 to 16,384 layers over a sound frame, and its upper words start rightly; for now every state counts as one that can reach the goal
+-- a plan is sound: it has 1 to 16,384 layers over a sound frame, and its upper words start rightly;
+-- for now every state counts as one that may reach the goal
 pub record IsSoundPlan (plan : PlanLists) : Type 0 where
   pub frame : IsSoundFrame plan.frame
   pub some_layer : 1 ≤ plan.layers

@@ -1,5 +1,6 @@
 // The laws of sound plans, each the contract of a function.
-ghost use Rattle.step_core.specs.PlanLaws.{FrameRowsAreWhole, LowTableRounds, HighTableRounds, BoundedHighTableRounds, UnboundedHighTableIsAbove};
+ghost use Rattle.step_core.specs.PlanLaws.{FrameRowsAreWhole, LowTableRounds, HighTableRounds, BoundedHighTableRounds};
+ghost use Rattle.step_core.specs.PlanLaws.{UnboundedHighTableIsAbove};
 
 /// The numbers of each row of a sound frame add up to its divisor, which is positive.
 pub fn frame_rows_are_whole()

@@ -16,7 +16,7 @@ use crate::tables::Tables;
 use round_out::{Divisor, ONE};
 use std::alloc::{AllocError, Global};
 
-/// The next layer of words: the value of each row over the words of the layer before.
+// The next layer of words: the value of each row over the words of the layer before.
 fn next_layer(
     alloc: Global,
     rows: &[Row],

@@ -111,7 +111,7 @@ pub fn both_words(
     )
 }
 
-/// The quotients of the row over the lower words, rounded down, and over the upper ones, rounded up.
+// The quotients of the row over the lower words, rounded down, and over the upper ones, rounded up.
 #[inline]
 fn both_quotients(row: &Row, divisor: &Divisor, low: &[u64], high: &[u64]) -> (u64, u64)
     requires low_targets { IsSoundRow (length low.now) row.now }
@@ -133,7 +133,7 @@ fn both_quotients(row: &Row, divisor: &Divisor, low: &[u64], high: &[u64]) -> (u
     }
 }
 
-/// The entries' numbers times their targets' words, added up: the lower ones and the upper ones.
+// The entries' numbers times their targets' words, added up: the lower ones and the upper ones.
 #[inline]
 fn both_dots(entries: &[Entry], low: &[u64], high: &[u64]) -> (Dot, Dot)
     requires low_targets { All (λ e. e.to < length low.now) entries.now }
@@ -155,8 +155,8 @@ fn both_dots(entries: &[Entry], low: &[u64], high: &[u64]) -> (Dot, Dot)
     (low_dot, high_dot)
 }
 
-/// The quotient of the row over the words, rounded down. A row of one entry leads surely to its
-/// target, and has the target's word.
+// The quotient of the row over the words, rounded down. A row of one entry leads surely to its
+// target, and has the target's word.
 #[inline]
 fn row_floor(row: &Row, divisor: &Divisor, words: &[u64]) -> u64
     requires row { IsSoundRow (length words.now) row.now }
@@ -171,8 +171,8 @@ fn row_floor(row: &Row, divisor: &Divisor, words: &[u64]) -> u64
     }
 }
 
-/// The quotient of the row over the words, rounded up. A row of one entry leads surely to its
-/// target, and has the target's word.
+// The quotient of the row over the words, rounded up. A row of one entry leads surely to its
+// target, and has the target's word.
 #[inline]
 fn row_ceil(row: &Row, divisor: &Divisor, words: &[u64]) -> u64
     requires row { IsSoundRow (length words.now) row.now }
@@ -187,7 +187,7 @@ fn row_ceil(row: &Row, divisor: &Divisor, words: &[u64]) -> u64
     }
 }
 
-/// The entries' numbers times their targets' words, added up.
+// The entries' numbers times their targets' words, added up.
 #[inline]
 fn dot(entries: &[Entry], words: &[u64]) -> Dot
     requires targets { All (λ e. e.to < length words.now) entries.now }

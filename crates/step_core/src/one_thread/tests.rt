@@ -27,7 +27,7 @@ fn row(alloc: Global, den: u64, entries: &[Entry]) -> Result<Row, AllocError>
     })
 }
 
-/// All states are live, and the goal is known exactly.
+// Sets that are known exactly.
 fn sets(alloc: Global, goal: &[bool], live: &[bool]) -> Result<Sets, AllocError>
     ensures { IfOk result (λ sets. sets ≡ record {
       goal_must = goal.now;
@@ -44,7 +44,7 @@ fn sets(alloc: Global, goal: &[bool], live: &[bool]) -> Result<Sets, AllocError>
     })
 }
 
-/// A state that jumps to an absorbing goal, for a bounded until.
+// A state that jumps to an absorbing goal, for a bounded until.
 fn two_states(alloc: Global) -> Result<Plan, AllocError>
     ensures { IfOk result IsSoundPlan }
 {
@@ -65,8 +65,8 @@ fn two_states(alloc: Global) -> Result<Plan, AllocError>
     })
 }
 
-/// A state that stays with the probability 1/2 and jumps to the goal or to a trap with 1/4 each, and
-/// a state that jumps to it, for an unbounded until.
+// A state that stays with the probability 1/2 and jumps to the goal or to a trap with 1/4 each, and
+// a state that jumps to it, for an unbounded until.
 fn four_states(alloc: Global) -> Result<Plan, AllocError>
     ensures { IfOk result IsSoundPlan }
 {

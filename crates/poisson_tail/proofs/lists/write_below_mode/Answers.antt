@@ -17,8 +17,10 @@ pub loop-k-preserved : goal.loop-k-preserved
 loop-k-preserved c =
     let load = c.args.load.now in
     record {
-      low = one_low_below load c.mode-mode.result c.mode-mode.ensures.value c.fine_load-fine.result c.fine_load-fine.ensures.value c.loop-k.low c.loop-k.k _
+      low =
+          one_low_below load c.mode-mode.ensures.value c.fine_load-fine.ensures.value c.loop-k.low c.loop-k.k
           c.loop-k-test.true (omega arith) (omega arith) c.loop-k.invariant.low c.low_downward.ensures;
-      high = one_high_below load c.mode-mode.result c.mode-mode.ensures.value c.fine_load-fine.result c.fine_load-fine.ensures.value c.loop-k.high c.loop-k.k _
+      high =
+          one_high_below load c.mode-mode.ensures.value c.fine_load-fine.ensures.value c.loop-k.high c.loop-k.k
           c.loop-k-test.true (omega arith) (omega arith) c.loop-k.invariant.high c.high_downward.ensures;
     }

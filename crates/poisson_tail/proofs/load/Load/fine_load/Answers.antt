@@ -6,7 +6,8 @@ use Rattle.poisson_tail.proofs.load.Load.fine_load.Goals as goal
 use Rattle.poisson_tail.proofs.load.Load.fine_load.Goals.{then-rest-self, else-rest-self}
 
 -- one doubling
-kept : (den num p whole rest more whole' rest' : ℕ) → whole * den + rest ≡ num * p → whole' ≡ whole * 2 + more → rest' + more * den ≡ rest * 2
+kept : (den num p whole rest more whole' rest' : ℕ) → whole * den + rest ≡ num * p → whole' ≡ whole * 2 + more
+    → rest' + more * den ≡ rest * 2
     → whole' * den + rest' ≡ num * (p * 2)
 kept den num p whole rest more whole' rest' h e f = rw e (omega (arith, h, f))
 
@@ -32,12 +33,16 @@ loop-preserved c =
     let same : c.args.self.now.den ≡ c.self.inside.den = sym (ap (λ (f : Fraction). f.den) c.self.view_is) in
     elim c.if-rest-self.branch [
       | then-rest-self w ↦ record {
-        value = rw power (kept c.args.self.now.den c.args.self.now.num (2 ^ c.loop.counter) c.loop.whole c.loop.rest 1 _ _ c.loop.invariant.value w.whole-is (omega arith));
+        value =
+            rw power
+            (kept _ _ _ _ _ 1 _ _ c.loop.invariant.value w.whole-is (omega arith));
         less = omega arith;
         small = rw power (omega arith);
       }
       | else-rest-self w ↦ record {
-        value = rw power (kept c.args.self.now.den c.args.self.now.num (2 ^ c.loop.counter) c.loop.whole c.loop.rest 0 _ _ c.loop.invariant.value (omega arith) (omega arith));
+        value =
+            rw power
+            (kept _ _ _ _ _ 0 _ _ c.loop.invariant.value (omega arith) (omega arith));
         less = omega arith;
         small = rw power (omega arith);
       }
@@ -57,10 +62,10 @@ pub returns-clause-at_least_mode : goal.returns-clause-at_least_mode
 returns-clause-at_least_mode c =
     let same : c.args.self.now.den ≡ c.self.inside.den = sym (ap (λ (f : Fraction). f.den) c.self.view_is) in
     let pos : 0 < c.args.self.now.den = omega (arith, same, c.self.invariant) in
-    (between c.args.self.now.num c.args.self.now.den c.loop.whole c.loop.rest c.loop.counter pos (omega arith) c.loop.invariant.less c.loop.invariant.value).0
+    (between _ _ _ _ _ pos (omega arith) c.loop.invariant.less c.loop.invariant.value).0
 
 pub returns-clause-below_next : goal.returns-clause-below_next
 returns-clause-below_next c =
     let same : c.args.self.now.den ≡ c.self.inside.den = sym (ap (λ (f : Fraction). f.den) c.self.view_is) in
     let pos : 0 < c.args.self.now.den = omega (arith, same, c.self.invariant) in
-    (between c.args.self.now.num c.args.self.now.den c.loop.whole c.loop.rest c.loop.counter pos (omega arith) c.loop.invariant.less c.loop.invariant.value).1
+    (between _ _ _ _ _ pos (omega arith) c.loop.invariant.less c.loop.invariant.value).1
