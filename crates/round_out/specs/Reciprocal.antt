@@ -1,8 +1,8 @@
 -- A divisor that is prepared for divisions.
 use Rattle.std.specs.Prelude.{ℕ, suc, ◌*◌, ◌^◌, ◌<◌, ◌≤◌}
 
--- the divisor has at most 63 bits, `power` is the least power of two above it, and the reciprocal is `2^63 * power` over the divisor,
--- rounded down, or 1 less where that is a whole number
+-- the divisor has the given number of bits, at most 63, `power` being the next power of two above it, and the reciprocal is
+-- `2^63 * power` over the divisor, rounded down, or 1 less where that is a whole number
 pub record IsPrepared (den power reciprocal bits : ℕ) : Type 0 where
   pub positive : 0 < den
   pub fits : den < 2 ^ 63

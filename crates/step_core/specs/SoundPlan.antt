@@ -21,7 +21,7 @@ pub record AreSoundWeights (last : ℕ) (weights : WeightLists) : Type 0 where
   pub mode_high : slice_index weights.high mode ≡ one_word
 
 -- the weights are sound, and `bits` is 8 to 48: the mix adds `2^-bits` to the upper word, for all that lies past the last layer
--- (no more lies there where the last layer is the load's horizon for these bits, as `FitsPoisson` says)
+-- (no more than that lies there where the last layer is the load's horizon for these bits, which `FitsPoisson` asks)
 pub record IsSoundPoisson (last : ℕ) (weights : WeightLists) (bits : ℕ) : Type 0 where
   pub weights_sound : AreSoundWeights last weights
   pub some_bits : 8 ≤ bits

@@ -63,8 +63,8 @@ fn next_layer(
 /// The layer of words of a set of states: 1 for each state of the set and 0 for each other, in units
 /// of `2^-62`.
 ///
-/// Each bounded until starts from such layers: within no jump, the states of the goal have reached
-/// it, and no other has. The only error is want of memory.
+/// The goal's layer has the probabilities of reaching it within no jump, from which a table starts.
+/// The only error is want of memory.
 pub fn set_layer(alloc: Global, set: &[bool]) -> Result<Vec<u64>, AllocError>
     ensures { IfOk result (λ layer. layer.items ≡ map (λ holds. if holds then ONE else 0) set.now) }
 {
