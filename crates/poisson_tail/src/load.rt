@@ -48,7 +48,7 @@ impl Load {
         self.num / self.den
     }
 
-    // Twice the load, rounded up.
+    /// Twice the load, rounded up.
     pub(crate) fn doubled(&self) -> u128
         ensures value { result ≡ div_ceil (2 * self.now.num) self.now.den }
         ensures divisor { 0 < self.now.den }

@@ -52,7 +52,7 @@ impl Divisor {
         self.den
     }
 
-    // The quotient of the products, and what is left over.
+    /// The quotient of the products, and what is left over.
     #[inline]
     pub(crate) fn quotient_and_rest(&self, products: u128) -> (u64, u64)
         requires { products ≤ self.now * 2 ^ 62 }

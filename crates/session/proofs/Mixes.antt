@@ -15,7 +15,9 @@ use Rattle.step_core.specs.WeightLists.{WeightLists}
 use Rattle.step_core.specs.SoundPlan.{AreSoundWeights}
 use Rattle.step_core.specs.TableLists.{TableLists}
 use Rattle.step_core.specs.declared.bracket.Bracket.{Bracket}
-use Rattle.session.specs.MixColumns.{column, IsWordTable, HasSums, floor_sum, ceiling_sum, column_mixes, first_mixes}
+use Rattle.session.specs.declared.mix_columns.Rounding.{Rounding}
+use Rattle.session.specs.declared.mix_columns.Rounding.TheVariants.{Down, Up}
+use Rattle.session.specs.MixColumns.{column, IsWordTable, HasSums, in_units, weighted_sum, column_mixes, first_mixes}
 
 -- ---- reads
 pub read_word : (xs : List ℕ) (k r : ℕ) → k < length xs → r ≡ get_or xs k r → r ≡ get_or xs k 0
@@ -31,95 +33,63 @@ module _ {X : Type 0} (f : X → List ℕ) where
 pub product_le : (w x : ℕ) → w ≤ 2 ^ 62 → x ≤ 2 ^ 62 → w * x ≤ 2 ^ 124
 product_le w x h k = omega (arith, mul-le w x (2 ^ 62) (2 ^ 62) h k)
 
-pub floor_le : (w x : ℕ) → w ≤ 2 ^ 62 → x ≤ 2 ^ 62 → w * x / 2 ^ 14 ≤ 2 ^ 110
-floor_le w x h k = omega (arith, product_le w x h k)
-
-pub ceiling_le : (w x : ℕ) → w ≤ 2 ^ 62 → x ≤ 2 ^ 62 → div_ceil (w * x) (2 ^ 14) ≤ 2 ^ 110
-ceiling_le w x h k = ceil_le (w * x) (2 ^ 14) (2 ^ 110) (omega arith) (omega (arith, product_le w x h k))
+pub units_le : (rounding : Rounding) (w x : ℕ) → w ≤ 2 ^ 62 → x ≤ 2 ^ 62 → in_units rounding (w * x) ≤ 2 ^ 110
+units_le Down w x h k = omega (arith, product_le w x h k)
+units_le Up w x h k = ceil_le (w * x) (2 ^ 14) (2 ^ 110) (omega arith) (omega (arith, product_le w x h k))
 
 -- ---- sums, a term at a time
 pub sum_more : (n : ℕ) (f : ℕ → ℕ) (s v : ℕ) → s ≡ sum_below n f → v ≡ f n → s + v ≡ sum_below (n + 1) f
 sum_more n f s v e g = rw (add-one n) (ap (λ z. z + v) e ∙ ap (λ z. sum_below n f + z) g)
 
 -- ---- the sums of all states, a layer at a time
-floor_terms_le : (k : ℕ) (weights : List ℕ) (word : ℕ → ℕ) → ((j : ℕ) → j < k → get_or weights j 0 ≤ 2 ^ 62) → ((j : ℕ) → j < k → word j ≤ 2 ^ 62)
-    → floor_sum k weights word ≤ k * 2 ^ 110
-floor_terms_le zero weights word h i = omega arith
-floor_terms_le (suc k) weights word h i =
+terms_le : (rounding : Rounding) (k : ℕ) (weights : List ℕ) (word : ℕ → ℕ) → ((j : ℕ) → j < k → get_or weights j 0 ≤ 2 ^ 62)
+    → ((j : ℕ) → j < k → word j ≤ 2 ^ 62) → weighted_sum rounding k weights word ≤ k * 2 ^ 110
+terms_le rounding zero weights word h i = omega arith
+terms_le rounding (suc k) weights word h i =
     omega (
       arith,
-      floor_terms_le k weights word (λ j l. h j (omega arith)) (λ j l. i j (omega arith)),
-      floor_le (get_or weights k 0) (word k) (h k (omega arith)) (i k (omega arith)),
+      terms_le rounding k weights word (λ j l. h j (omega arith)) (λ j l. i j (omega arith)),
+      units_le rounding (get_or weights k 0) (word k) (h k (omega arith)) (i k (omega arith)),
     )
 
-ceiling_terms_le : (k : ℕ) (weights : List ℕ) (word : ℕ → ℕ) → ((j : ℕ) → j < k → get_or weights j 0 ≤ 2 ^ 62) → ((j : ℕ) → j < k → word j ≤ 2 ^ 62)
-    → ceiling_sum k weights word ≤ k * 2 ^ 110
-ceiling_terms_le zero weights word h i = omega arith
-ceiling_terms_le (suc k) weights word h i =
-    omega (
-      arith,
-      ceiling_terms_le k weights word (λ j l. h j (omega arith)) (λ j l. i j (omega arith)),
-      ceiling_le (get_or weights k 0) (word k) (h k (omega arith)) (i k (omega arith)),
-    )
-
-module _ (last n : ℕ) (weights : List ℕ) (table : List (List ℕ)) (is : IsWordTable last n table)
+module _ (rounding : Rounding) (last n : ℕ) (weights : List ℕ) (table : List (List ℕ)) (is : IsWordTable last n table)
     (small : (k : ℕ) → k ≤ last → get_or weights k 0 ≤ 2 ^ 62) where
   pub layer_small : (k : ℕ) (words : List ℕ) → k ≤ last → words ≡ layer_at table k → (s : ℕ) → s < length words → get_or words s 0 ≤ 2 ^ 62
   layer_small k words l e s i =
       let inside : s < n = omega (arith, i, ap length e, is.states k l) in
       rw e (is.at_most_one k s l inside)
 
-  pub floor_room : (k : ℕ) (sums : List ℕ) → k ≤ suc last → HasSums n (λ s. floor_sum k weights (column table s)) sums
+  pub sums_room : (k : ℕ) (sums : List ℕ) → k ≤ suc last → HasSums n (λ s. weighted_sum rounding k weights (column table s)) sums
       → (s : ℕ) → s < length sums → get_or sums s 0 ≤ k * 2 ^ 110
-  floor_room k sums l has s i =
+  sums_room k sums l has s i =
       let inside : s < n = omega (arith, i, has.states) in
-      rw (has.values s inside) (floor_terms_le k weights (column table s) (λ j m. small j (omega arith)) (λ j m. is.at_most_one j s (omega arith) inside))
-
-  pub ceiling_room : (k : ℕ) (sums : List ℕ) → k ≤ suc last → HasSums n (λ s. ceiling_sum k weights (column table s)) sums
-      → (s : ℕ) → s < length sums → get_or sums s 0 ≤ k * 2 ^ 110
-  ceiling_room k sums l has s i =
-      let inside : s < n = omega (arith, i, has.states) in
-      rw (has.values s inside) (ceiling_terms_le k weights (column table s) (λ j m. small j (omega arith)) (λ j m. is.at_most_one j s (omega arith) inside))
+      rw (has.values s inside)
+      (terms_le rounding k weights (column table s) (λ j m. small j (omega arith)) (λ j m. is.at_most_one j s (omega arith) inside))
 
 -- a vector that is lent whole as a slice holds what the slice has at the end
 written : (len : ℕ) (new old : List ℕ) → length old ≡ len → length new ≡ len → take len (new ++ drop (length new) old) ≡ new
 written len new old e f = rw (← f) (take-append_seam new (drop (length new) old))
 
-pub floors_more : (n k weight len : ℕ) (weights : List ℕ) (table : List (List ℕ)) (sums words new : List ℕ)
-    → HasSums n (λ s. floor_sum k weights (column table s)) sums → weight ≡ get_or weights k 0 → words ≡ layer_at table k
-    → length sums ≡ len → length new ≡ len → ((s : ℕ) → s < length new → get_or new s 0 ≡ get_or sums s 0 + weight * get_or words s 0 / 2 ^ 14)
-    → HasSums n (λ s. floor_sum (k + 1) weights (column table s)) (take len (new ++ drop (length new) sums))
-floors_more n k weight len weights table sums words new has e f g i h =
-    rw (written len new sums g i)
-    (record {
-      states = i ∙ sym g ∙ has.states;
-      values = λ s l.
-          h s (omega (arith, i, g, has.states, l))
-          ∙ sum_more k (λ j. get_or weights j 0 * column table s j / 2 ^ 14) (get_or sums s 0) _ (has.values s l)
-          (ap (λ z. z * get_or words s 0 / 2 ^ 14) e ∙ ap (λ z. get_or weights k 0 * get_or z s 0 / 2 ^ 14) f);
-    })
+module _ (rounding : Rounding) where
+  pub sums_more : (n k weight len : ℕ) (weights : List ℕ) (table : List (List ℕ)) (sums words new : List ℕ)
+      → HasSums n (λ s. weighted_sum rounding k weights (column table s)) sums → weight ≡ get_or weights k 0 → words ≡ layer_at table k
+      → length sums ≡ len → length new ≡ len
+      → ((s : ℕ) → s < length new → get_or new s 0 ≡ get_or sums s 0 + in_units rounding (weight * get_or words s 0))
+      → HasSums n (λ s. weighted_sum rounding (k + 1) weights (column table s)) (take len (new ++ drop (length new) sums))
+  sums_more n k weight len weights table sums words new has e f g i h =
+      rw (written len new sums g i)
+      (record {
+        states = i ∙ sym g ∙ has.states;
+        values = λ s l.
+            h s (omega (arith, i, g, has.states, l))
+            ∙ sum_more k (λ j. in_units rounding (get_or weights j 0 * column table s j)) (get_or sums s 0) _ (has.values s l)
+            (ap (λ z. in_units rounding (z * get_or words s 0)) e ∙ ap (λ z. in_units rounding (get_or weights k 0 * get_or z s 0)) f);
+      })
 
-pub floors_ended : (n last k : ℕ) (weights : List ℕ) (table : List (List ℕ)) (sums : List ℕ) → HasSums n (λ s. floor_sum k weights (column table s)) sums → k ≡ suc last
-    → HasSums n (λ s. floor_sum (suc last) weights (column table s)) sums
-floors_ended n last k weights table sums has e = subst (λ m. HasSums n (λ s. floor_sum m weights (column table s)) sums) e has
-
-pub ceilings_more : (n k weight len : ℕ) (weights : List ℕ) (table : List (List ℕ)) (sums words new : List ℕ)
-    → HasSums n (λ s. ceiling_sum k weights (column table s)) sums → weight ≡ get_or weights k 0 → words ≡ layer_at table k
-    → length sums ≡ len → length new ≡ len → ((s : ℕ) → s < length new → get_or new s 0 ≡ get_or sums s 0 + div_ceil (weight * get_or words s 0) (2 ^ 14))
-    → HasSums n (λ s. ceiling_sum (k + 1) weights (column table s)) (take len (new ++ drop (length new) sums))
-ceilings_more n k weight len weights table sums words new has e f g i h =
-    rw (written len new sums g i)
-    (record {
-      states = i ∙ sym g ∙ has.states;
-      values = λ s l.
-          h s (omega (arith, i, g, has.states, l))
-          ∙ sum_more k (λ j. div_ceil (get_or weights j 0 * column table s j) (2 ^ 14)) (get_or sums s 0) _ (has.values s l)
-          (ap (λ z. div_ceil (z * get_or words s 0) (2 ^ 14)) e ∙ ap (λ z. div_ceil (get_or weights k 0 * get_or z s 0) (2 ^ 14)) f);
-    })
-
-pub ceilings_ended : (n last k : ℕ) (weights : List ℕ) (table : List (List ℕ)) (sums : List ℕ) → HasSums n (λ s. ceiling_sum k weights (column table s)) sums → k ≡ suc last
-    → HasSums n (λ s. ceiling_sum (suc last) weights (column table s)) sums
-ceilings_ended n last k weights table sums has e = subst (λ m. HasSums n (λ s. ceiling_sum m weights (column table s)) sums) e has
+  pub sums_ended : (n last k : ℕ) (weights : List ℕ) (table : List (List ℕ)) (sums : List ℕ)
+      → HasSums n (λ s. weighted_sum rounding k weights (column table s)) sums → k ≡ suc last
+      → HasSums n (λ s. weighted_sum rounding (suc last) weights (column table s)) sums
+  sums_ended n last k weights table sums has e = subst (λ m. HasSums n (λ s. weighted_sum rounding m weights (column table s)) sums) e has
 
 -- ---- the sums of sound weights
 module _ (last : ℕ) (weights : WeightLists) (sound : AreSoundWeights last weights) where
@@ -153,24 +123,18 @@ module _ (last : ℕ) (weights : WeightLists) (sound : AreSoundWeights last weig
 read_sum : (n : ℕ) (sum : ℕ → ℕ) (sums : List ℕ) (s r : ℕ) → HasSums n sum sums → s < n → r ≡ get_or sums s r → r ≡ sum s
 read_sum n sum sums s r has inside read = read_word sums s r (omega (arith, has.states, inside)) read ∙ has.values s inside
 
-pub read_floor : (n m s r : ℕ) (xs ys : List ℕ) (t u : List (List ℕ)) (sums : List ℕ) → HasSums n (λ s. floor_sum m xs (column t s)) sums
-    → xs ≡ ys → t ≡ u → s < n → r ≡ get_or sums s r → r ≡ floor_sum m ys (column u s)
-read_floor n m s r xs ys t u sums has e f inside read =
+pub read_weighted : (rounding : Rounding) (n m s r : ℕ) (xs ys : List ℕ) (t u : List (List ℕ)) (sums : List ℕ)
+    → HasSums n (λ s. weighted_sum rounding m xs (column t s)) sums → xs ≡ ys → t ≡ u → s < n → r ≡ get_or sums s r
+    → r ≡ weighted_sum rounding m ys (column u s)
+read_weighted rounding n m s r xs ys t u sums has e f inside read =
     read_sum n _ sums s r has inside read
-    ∙ ap (λ z. floor_sum m z (column t s)) e
-    ∙ ap (λ z. floor_sum m ys (column z s)) f
+    ∙ ap (λ z. weighted_sum rounding m z (column t s)) e
+    ∙ ap (λ z. weighted_sum rounding m ys (column z s)) f
 
-pub read_ceiling : (n m s r : ℕ) (xs ys : List ℕ) (t u : List (List ℕ)) (sums : List ℕ) → HasSums n (λ s. ceiling_sum m xs (column t s)) sums
-    → xs ≡ ys → t ≡ u → s < n → r ≡ get_or sums s r → r ≡ ceiling_sum m ys (column u s)
-read_ceiling n m s r xs ys t u sums has e f inside read =
-    read_sum n _ sums s r has inside read
-    ∙ ap (λ z. ceiling_sum m z (column t s)) e
-    ∙ ap (λ z. ceiling_sum m ys (column z s)) f
-
-pub ceiling_sum_le : (last n s : ℕ) (weights : List ℕ) (table : List (List ℕ)) → IsWordTable last n table
-    → ((k : ℕ) → k ≤ last → get_or weights k 0 ≤ 2 ^ 62) → s < n → ceiling_sum (suc last) weights (column table s) ≤ suc last * 2 ^ 110
-ceiling_sum_le last n s weights table is small inside =
-    ceiling_terms_le (suc last) weights (column table s) (λ j l. small j (omega arith)) (λ j l. is.at_most_one j s (omega arith) inside)
+pub weighted_sum_le : (rounding : Rounding) (last n s : ℕ) (weights : List ℕ) (table : List (List ℕ)) → IsWordTable last n table
+    → ((k : ℕ) → k ≤ last → get_or weights k 0 ≤ 2 ^ 62) → s < n → weighted_sum rounding (suc last) weights (column table s) ≤ suc last * 2 ^ 110
+weighted_sum_le rounding last n s weights table is small inside =
+    terms_le rounding (suc last) weights (column table s) (λ j l. small j (omega arith)) (λ j l. is.at_most_one j s (omega arith) inside)
 
 -- ---- one bracket more
 bracket_same : (b : Bracket) (l u : ℕ) → b.lower ≡ l → b.upper ≡ u → b ≡ record { lower = l; upper = u }

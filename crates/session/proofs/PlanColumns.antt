@@ -1,5 +1,5 @@
 -- The words of a sound plan's tables can be mixed.
-use Rattle.std.proofs.Common.{ℕ, zero, suc, ◌*◌, ◌≤◌, ◌<◌, Bool, true, false, length, arith}
+use Rattle.std.proofs.Common.{◌≡◌, ℕ, zero, suc, ◌*◌, ◌≤◌, ◌<◌, Bool, true, false, length, ap, subst, arith}
 use Rattle.std.proofs.Math.Nat.{div-mul-le_self, le_of_mul-le-mul_right}
 use Rattle.std.specs.Prelude.{slice_index, if◌then◌else◌}
 use Rattle.ctmc_semantics.specs.RoundedTables.{one_word, low_table, high_table}
@@ -69,3 +69,15 @@ module _ (plan : PlanLists) (tables : TableLists) (sound : IsSoundPlan plan) (ar
         (high_word_le (frame_rows plan.frame.rows) (λ t i. whole_row plan.frame t sound.frame i) _ _ (slice_index plan.start_upper)
         (λ t i. rw (sound.start t i) (set_word_le _)) k s inside);
   }
+
+-- ---- the same of a plan whose fields are read, and whose states are counted by its first upper words
+module _ (plan read : PlanLists) (n : ℕ) (tables : TableLists) (sound : IsSoundPlan plan) (are : AreTablesOf plan tables) (same : read ≡ plan)
+    (counted : n ≡ length read.start_upper) where
+  rows_counted : length plan.frame.rows ≡ n
+  rows_counted = omega (arith, counted, ap (λ p. length p.start_upper) same, sound.start_states)
+
+  pub read_low_words : IsWordTable read.layers n tables.low
+  read_low_words = rw same (subst (λ m. IsWordTable plan.layers m tables.low) rows_counted (low_words plan tables sound are))
+
+  pub read_high_words : IsWordTable read.layers n tables.high
+  read_high_words = rw same (subst (λ m. IsWordTable plan.layers m tables.high) rows_counted (high_words plan tables sound are))

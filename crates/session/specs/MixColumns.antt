@@ -12,6 +12,8 @@ use Rattle.step_core.specs.WeightLists.{WeightLists}
 use Rattle.step_core.specs.declared.bracket.Bracket.{Bracket}
 use Rattle.step_core.specs.declared.mix.Mix.{Mix}
 use Rattle.step_core.specs.declared.mix.Mix.TheVariants.{Poisson, Last}
+use Rattle.session.specs.declared.mix_columns.Rounding.{Rounding}
+use Rattle.session.specs.declared.mix_columns.Rounding.TheVariants.{Down, Up}
 use Rattle.session.specs.declared.mix_columns.WeightSums.{WeightSums}
 
 -- the state's word after each number of jumps
@@ -24,13 +26,14 @@ pub record IsWordTable (last n : ℕ) (table : List (List ℕ)) : Type 0 where
   pub states : (k : ℕ) → k ≤ last → length (layer_at table k) ≡ n
   pub at_most_one : (k s : ℕ) → k ≤ last → s < n → column table s k ≤ one_word
 
--- the sum of the weighted words of the first n layers, each rounded down to units of `2^14`
-abbrev pub floor_sum : ℕ → List ℕ → (ℕ → ℕ) → ℕ
-floor_sum n weights word = sum_below n (λ k. slice_index weights k * word k / 2 ^ 14)
+-- the product in units of `2^14`
+abbrev pub in_units : Rounding → ℕ → ℕ
+in_units Down product = product / 2 ^ 14
+in_units Up product = div_ceil product (2 ^ 14)
 
--- the sum of the weighted words of the first n layers, each rounded up to units of `2^14`
-abbrev pub ceiling_sum : ℕ → List ℕ → (ℕ → ℕ) → ℕ
-ceiling_sum n weights word = sum_below n (λ k. div_ceil (slice_index weights k * word k) (2 ^ 14))
+-- the sum of the weighted words of the first n layers, each rounded to units
+abbrev pub weighted_sum : Rounding → ℕ → List ℕ → (ℕ → ℕ) → ℕ
+weighted_sum rounding n weights word = sum_below n (λ k. in_units rounding (slice_index weights k * word k))
 
 -- the list has the sum of each of the n states
 pub record HasSums (n : ℕ) (sum : ℕ → ℕ) (sums : List ℕ) : Type 0 where
@@ -39,8 +42,8 @@ pub record HasSums (n : ℕ) (sum : ℕ → ℕ) (sums : List ℕ) : Type 0 wher
 
 -- the sums are those of the weights of 0 to `last` jumps, in units of `2^14` words
 pub record AreSumsOf (last : ℕ) (weights : WeightLists) (sums : WeightSums) : Type 0 where
-  pub low : sums.low ≡ sum_below (suc last) (slice_index weights.low) / 2 ^ 14
-  pub high : sums.high ≡ div_ceil (sum_below (suc last) (slice_index weights.high)) (2 ^ 14)
+  pub low : sums.low ≡ in_units Down (sum_below (suc last) (slice_index weights.low))
+  pub high : sums.high ≡ in_units Up (sum_below (suc last) (slice_index weights.high))
 
 -- the state's bracket: the mix of its lower words, and that of its upper ones
 abbrev pub column_mixes : ℕ → ℕ → WeightLists → TableLists → ℕ → Bracket

@@ -4,13 +4,33 @@
 ghost use Rattle.std.specs.Prelude.{◌≡◌, ℕ, suc, ◌+◌, ◌-◌, ◌*◌, ◌/◌, ◌^◌, ◌<◌, ◌≤◌, min, length, map, slice_index, EachIndex, IfOk};
 ghost use Rattle.std.specs.Int.{div_ceil};
 ghost use Rattle.ctmc_semantics.specs.Sum.{sum_below};
-ghost use Rattle.session.specs.MixColumns.{column, floor_sum, ceiling_sum, HasSums, IsWordTable, AreSumsOf, first_mixes};
+ghost use Rattle.session.specs.MixColumns.{column, in_units, weighted_sum, HasSums, IsWordTable, AreSumsOf, first_mixes};
 ghost use Rattle.step_core.specs.SoundPlan.{AreSoundWeights, IsSoundPoisson};
 
 use poisson_tail::MOST_LAYERS;
 use round_out::ONE;
 use std::alloc::{AllocError, Global};
 use step_core::{Bracket, Tables, Weights};
+
+// Which way a product of words is rounded.
+#[derive(Clone, Copy, Debug)]
+enum Rounding {
+    Down,
+    Up,
+}
+
+impl Rounding {
+    // The product of two words in units of 2^14 words: a product has at most 124 bits, and 16,385 of them that have 110
+    // each add up to less than 128.
+    fn units(self, product: u128) -> u128
+        ensures { result ≡ in_units self product }
+    {
+        match self {
+            Rounding::Down => product >> 14,
+            Rounding::Up => product.div_ceil(1 << 14),
+        }
+    }
+}
 
 /// The sums of the low and of the high weights, which the mixes of all states share.
 ///
@@ -28,8 +48,8 @@ pub(crate) fn weight_sums(weights: &Weights, last: usize) -> WeightSums
     ensures { AreSumsOf last weights.now result }
 {
     WeightSums {
-        low: (sum(&weights.low, last) >> 14) as u64,
-        high: sum(&weights.high, last).div_ceil(1 << 14) as u64,
+        low: Rounding::Down.units(sum(&weights.low, last)) as u64,
+        high: Rounding::Up.units(sum(&weights.high, last)) as u64,
     }
 }
 
@@ -48,76 +68,40 @@ fn sum(weights: &[u64], last: usize) -> u128
     sum
 }
 
-// Adds a layer to the states' sums: each word times the weight, rounded down to units of 2^14.
-fn add_floors(sums: &mut [u128], weight: u64, words: &[u64])
+// Adds a layer to the states' sums: each word times the weight, rounded to units of 2^14.
+fn add_layer(sums: &mut [u128], weight: u64, words: &[u64], rounding: Rounding)
     requires states { length sums.old ≡ length words.now }
     requires weight { weight ≤ ONE }
     requires words { EachIndex words.now (λ s. slice_index words.now s ≤ ONE) }
     requires room { EachIndex sums.old (λ s. slice_index sums.old s ≤ MOST_LAYERS * 2 ^ 110) }
     ensures { EachIndex sums.new (λ s. slice_index sums.new s
-        ≡ slice_index sums.old s + weight * slice_index words.now s / 2 ^ 14) }
+        ≡ slice_index sums.old s + in_units rounding (weight * slice_index words.now s)) }
 {
     for state in 0..words.len() {
         let product = u128::from(weight) * u128::from(words[state]);
-        sums[state] += product >> 14;
+        sums[state] += rounding.units(product);
     }
 }
 
-// Adds a layer to the states' sums: each word times the weight, rounded up to units of 2^14.
-fn add_ceilings(sums: &mut [u128], weight: u64, words: &[u64])
-    requires states { length sums.old ≡ length words.now }
-    requires weight { weight ≤ ONE }
-    requires words { EachIndex words.now (λ s. slice_index words.now s ≤ ONE) }
-    requires room { EachIndex sums.old (λ s. slice_index sums.old s ≤ MOST_LAYERS * 2 ^ 110) }
-    ensures { EachIndex sums.new (λ s. slice_index sums.new s
-        ≡ slice_index sums.old s + div_ceil (weight * slice_index words.now s) (2 ^ 14)) }
-{
-    for state in 0..words.len() {
-        let product = u128::from(weight) * u128::from(words[state]);
-        sums[state] += product.div_ceil(1 << 14);
-    }
-}
-
-// For each state the sum of its weighted words, each rounded down to units of 2^14.
-fn floor_sums(
+// For each state the sum of its weighted words, each rounded to units of 2^14.
+fn weighted_sums(
     alloc: Global,
     weights: &[u64],
     table: &[Vec<u64>],
     last: usize,
     states: usize,
+    rounding: Rounding,
 ) -> Result<Vec<u128>, AllocError>
     requires layers { length weights.now ≡ suc last }
     requires few { last ≤ MOST_LAYERS }
     requires at_most_one { (k : ℕ) → k ≤ last → slice_index weights.now k ≤ ONE }
     requires words { IsWordTable last states (map (λ layer. layer.items) table.now) }
     ensures { IfOk result (λ sums. HasSums states
-        (λ s. floor_sum (suc last) weights.now (column (map (λ layer. layer.items) table.now) s)) sums.items) }
+        (λ s. weighted_sum rounding (suc last) weights.now (column (map (λ layer. layer.items) table.now) s)) sums.items) }
 {
     let mut sums = vec![in alloc; 0u128; states]?;
     for layer in 0..last + 1 {
-        add_floors(&mut sums, weights[layer], &table[layer]);
-    }
-    Ok(sums)
-}
-
-// For each state the sum of its weighted words, each rounded up to units of 2^14.
-fn ceiling_sums(
-    alloc: Global,
-    weights: &[u64],
-    table: &[Vec<u64>],
-    last: usize,
-    states: usize,
-) -> Result<Vec<u128>, AllocError>
-    requires layers { length weights.now ≡ suc last }
-    requires few { last ≤ MOST_LAYERS }
-    requires at_most_one { (k : ℕ) → k ≤ last → slice_index weights.now k ≤ ONE }
-    requires words { IsWordTable last states (map (λ layer. layer.items) table.now) }
-    ensures { IfOk result (λ sums. HasSums states
-        (λ s. ceiling_sum (suc last) weights.now (column (map (λ layer. layer.items) table.now) s)) sums.items) }
-{
-    let mut sums = vec![in alloc; 0u128; states]?;
-    for layer in 0..last + 1 {
-        add_ceilings(&mut sums, weights[layer], &table[layer]);
+        add_layer(&mut sums, weights[layer], &table[layer], rounding);
     }
     Ok(sums)
 }
@@ -157,8 +141,22 @@ pub(crate) fn mixed_brackets(
     ensures { IfOk result (λ brackets. brackets.items ≡ first_mixes last bits weights.now tables.now states) }
 {
     let sums = weight_sums(weights, last);
-    let low = floor_sums(alloc, &weights.low, &tables.low, last, states)?;
-    let high = ceiling_sums(alloc, &weights.high, &tables.high, last, states)?;
+    let low = weighted_sums(
+        alloc,
+        &weights.low,
+        &tables.low,
+        last,
+        states,
+        Rounding::Down,
+    )?;
+    let high = weighted_sums(
+        alloc,
+        &weights.high,
+        &tables.high,
+        last,
+        states,
+        Rounding::Up,
+    )?;
     let mut brackets = Vec::with_capacity(alloc, states)?;
     for state in 0..states {
         brackets.push(quotient_bracket(low[state], high[state], sums, bits))?;
