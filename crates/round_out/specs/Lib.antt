@@ -1,2 +1,3 @@
-pub mod Reciprocal
 pub mod Sums
+-- what the divisor's own functions say
+pub mod Reciprocal

@@ -1,20 +1,22 @@
-pub mod BracketAnswer
 pub mod Command
-pub mod Ends
+pub mod PlainFormula
 pub mod ExactAnswer
 pub mod ExitCode
 pub mod FaultText
-pub mod FormulaAnswer
-pub mod Laws
-pub mod MixColumns
-pub mod NextAnswer
-pub mod Outcome
-pub mod PlainFormula
-pub mod ReadCause
-pub mod Reading
 pub mod Report
+pub mod Outcome
+pub mod ReadCause
 pub mod Serve
-pub mod UniformisedRow
-pub mod UntilAnswer
-pub mod UntilPlan
+pub mod Laws
 pub mod WorkedExample
+-- what is computed
+pub mod BracketAnswer
+pub mod NextAnswer
+pub mod UntilPlan
+pub mod UntilAnswer
+pub mod FormulaAnswer
+-- what the functions' own steps say
+pub mod Ends
+pub mod MixColumns
+pub mod Reading
+pub mod UniformisedRow

@@ -70,14 +70,14 @@ pub record TakesModel (names : FileNames) (files : Option (List Pair)) : Type 0 
   pub takes_rew : TakesRew tra.n names.rew files rew
 
 -- the file has too many bytes, which is told at line 0
-pub record IsTooLong (name : List ℕ) (files : Option (List Pair)) (line : ℕ) (what : FileWhat) : Type 0 where
+pub record HasTooManyBytes (name : List ℕ) (files : Option (List Pair)) (line : ℕ) (what : FileWhat) : Type 0 where
   pub too_big : IsTooBig name files
   pub at_no_line : line ≡ 0
   pub told : what ≡ TooBig
 
 -- the file has too many bytes, or was taken whole and has this fault at this line
 abbrev pub IsFaulty : List ℕ → Option (List Pair) → (List ℕ → ℕ → FileWhat → Type 0) → ℕ → FileWhat → Type 0
-IsFaulty name files FaultAt line what = IsTooLong name files line what ⊎ TakesText name files (λ bytes. FaultAt bytes line what)
+IsFaulty name files FaultAt line what = HasTooManyBytes name files line what ⊎ TakesText name files (λ bytes. FaultAt bytes line what)
 
 -- what is wrong with the file of the chain
 abbrev pub IsTraFaulty : List ℕ → Option (List Pair) → ℕ → FileWhat → Type 0

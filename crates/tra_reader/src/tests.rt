@@ -168,34 +168,14 @@ fn the_counts_have_limits(rt: HostRuntime) {
 #[test]
 fn lines_are_as_many_as_the_head_says(rt: HostRuntime) {
     let alloc = rt.alloc();
-    check_fault(
-        &rt,
-        alloc,
-        b"STATES 2\nTRANSITIONS 3\n1 2 1\n2 1 1\n",
-        5,
-        FileWhat::Count,
-    );
-    check_fault(
-        &rt,
-        alloc,
-        b"STATES 2\nTRANSITIONS 3\n1 2 1\n2 1 1\n\n \n",
-        7,
-        FileWhat::Count,
-    );
-    check_fault(
-        &rt,
-        alloc,
-        b"STATES 2\nTRANSITIONS 1\n1 2 1\n\n2 1 1\nx\n",
-        5,
-        FileWhat::Count,
-    );
-    check_fault(
-        &rt,
-        alloc,
-        b"STATES 2\nTRANSITIONS 0\nx y z\n",
-        3,
-        FileWhat::Count,
-    );
+    for (text, line) in [
+        (b"STATES 2\nTRANSITIONS 3\n1 2 1\n2 1 1\n".as_slice(), 5),
+        (b"STATES 2\nTRANSITIONS 3\n1 2 1\n2 1 1\n\n \n", 7),
+        (b"STATES 2\nTRANSITIONS 1\n1 2 1\n\n2 1 1\nx\n", 5),
+        (b"STATES 2\nTRANSITIONS 0\nx y z\n", 3),
+    ] {
+        check_fault(&rt, alloc, text, line, FileWhat::Count);
+    }
 }
 
 #[test]
@@ -263,27 +243,16 @@ fn with_line(alloc: Global, line: &[u8]) -> Result<Vec<u8>, AllocError> {
 #[test]
 fn a_pair_of_states_stands_once(rt: HostRuntime) {
     let alloc = rt.alloc();
-    check_fault(
-        &rt,
-        alloc,
-        b"STATES 2\nTRANSITIONS 2\n1 2 1\n1 2 0\n",
-        4,
-        FileWhat::Repeated,
-    );
-    check_fault(
-        &rt,
-        alloc,
-        b"STATES 2\nTRANSITIONS 4\n2 1 0\n1 2 1\n2 1 1\n1 2 1\n",
-        5,
-        FileWhat::Repeated,
-    );
-    check_fault(
-        &rt,
-        alloc,
-        b"STATES 2\nTRANSITIONS 4\n2 2 0\n1 2 1\n\n1 2 1\n2 2 1\n",
-        6,
-        FileWhat::Repeated,
-    );
+    for (text, line) in [
+        (b"STATES 2\nTRANSITIONS 2\n1 2 1\n1 2 0\n".as_slice(), 4),
+        (b"STATES 2\nTRANSITIONS 4\n2 1 0\n1 2 1\n2 1 1\n1 2 1\n", 5),
+        (
+            b"STATES 2\nTRANSITIONS 4\n2 2 0\n1 2 1\n\n1 2 1\n2 2 1\n",
+            6,
+        ),
+    ] {
+        check_fault(&rt, alloc, text, line, FileWhat::Repeated);
+    }
 }
 
 #[test]

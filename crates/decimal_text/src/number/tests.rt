@@ -17,16 +17,10 @@ fn check_fault(rt: &impl Abort, word: &[u8], fault: NumberFault) {
     assert_eq!(rt; read(word), Err(fault), "{word:?}");
 }
 
-// The front, as many of one byte, and the back.
-fn long_word(
-    alloc: Global,
-    front: &[u8],
-    byte: u8,
-    count: usize,
-    back: &[u8],
-) -> Result<Vec<u8>, AllocError> {
+// The front, a hundred thousand of one digit, and the back.
+fn long_word(alloc: Global, front: &[u8], digit: u8, back: &[u8]) -> Result<Vec<u8>, AllocError> {
     let mut word = Vec::from_slice(alloc, front)?;
-    word.extend_from_slice(&vec![in alloc; byte; count]?)?;
+    word.extend_from_slice(&vec![in alloc; digit; 100_000]?)?;
     word.extend_from_slice(back)?;
     Ok(word)
 }
@@ -67,75 +61,53 @@ fn what_is_no_short_number_is_refused(rt: HostRuntime) {
 #[test]
 fn mantissas_of_any_length_are_read(rt: HostRuntime) -> Result<(), Fail> {
     let alloc = rt.alloc();
-    check_value(
-        &rt,
-        &long_word(alloc, b"1", b'0', 100_000, b"e-99999")?,
-        10,
-        0,
-    );
-    check_value(
-        &rt,
-        &long_word(alloc, b"12", b'0', 100_000, b"e-100001")?,
-        12,
-        1,
-    );
-    check_value(&rt, &long_word(alloc, b"", b'0', 100_000, b"63")?, 63, 0);
-    check_value(&rt, &long_word(alloc, b"7.", b'0', 100_000, b"")?, 7, 0);
-    check_value(
-        &rt,
-        &long_word(alloc, b"0.", b'0', 100_000, b"1e100001")?,
-        1,
-        0,
-    );
-    check_fault(
-        &rt,
-        &long_word(alloc, b"0.", b'0', 100_000, b"1")?,
-        NumberFault::TooFine,
-    );
-    check_fault(
-        &rt,
-        &long_word(alloc, b"0.", b'9', 100_000, b"")?,
-        NumberFault::TooFine,
-    );
-    check_fault(
-        &rt,
-        &long_word(alloc, b"", b'9', 100_000, b"")?,
-        NumberFault::TooBig,
-    );
-    check_fault(
-        &rt,
-        &long_word(alloc, b"", b'9', 100_000, b"x")?,
-        NumberFault::NotNumber,
-    );
+    for (front, digit, back, (c, x)) in [
+        (b"1".as_slice(), b'0', b"e-99999".as_slice(), (10, 0)),
+        (b"12", b'0', b"e-100001", (12, 1)),
+        (b"", b'0', b"63", (63, 0)),
+        (b"7.", b'0', b"", (7, 0)),
+        (b"0.", b'0', b"1e100001", (1, 0)),
+    ] {
+        check_value(&rt, &long_word(alloc, front, digit, back)?, c, x);
+    }
+    for (front, digit, back, fault) in [
+        (
+            b"0.".as_slice(),
+            b'0',
+            b"1".as_slice(),
+            NumberFault::TooFine,
+        ),
+        (b"0.", b'9', b"", NumberFault::TooFine),
+        (b"", b'9', b"", NumberFault::TooBig),
+        (b"", b'9', b"x", NumberFault::NotNumber),
+    ] {
+        check_fault(&rt, &long_word(alloc, front, digit, back)?, fault);
+    }
     Ok(())
 }
 
 #[test]
 fn exponents_of_any_length_are_read(rt: HostRuntime) -> Result<(), Fail> {
     let alloc = rt.alloc();
-    check_value(&rt, &long_word(alloc, b"0e", b'9', 100_000, b"")?, 0, 0);
-    check_value(&rt, &long_word(alloc, b"0.0e-", b'9', 100_000, b"")?, 0, 0);
-    check_value(
-        &rt,
-        &long_word(alloc, b"2e", b'0', 100_000, b"3")?,
-        2_000,
-        0,
-    );
-    check_fault(
-        &rt,
-        &long_word(alloc, b"1e-", b'9', 100_000, b"")?,
-        NumberFault::TooFine,
-    );
-    check_fault(
-        &rt,
-        &long_word(alloc, b"1e", b'9', 100_000, b"")?,
-        NumberFault::TooBig,
-    );
-    check_fault(
-        &rt,
-        &long_word(alloc, b"1e", b'9', 100_000, b"-")?,
-        NumberFault::NotNumber,
-    );
+    for (front, digit, back, (c, x)) in [
+        (b"0e".as_slice(), b'9', b"".as_slice(), (0, 0)),
+        (b"0.0e-", b'9', b"", (0, 0)),
+        (b"2e", b'0', b"3", (2_000, 0)),
+    ] {
+        check_value(&rt, &long_word(alloc, front, digit, back)?, c, x);
+    }
+    for (front, digit, back, fault) in [
+        (
+            b"1e-".as_slice(),
+            b'9',
+            b"".as_slice(),
+            NumberFault::TooFine,
+        ),
+        (b"1e", b'9', b"", NumberFault::TooBig),
+        (b"1e", b'9', b"-", NumberFault::NotNumber),
+    ] {
+        check_fault(&rt, &long_word(alloc, front, digit, back)?, fault);
+    }
     Ok(())
 }
 
