@@ -27,5 +27,9 @@ pub greatest_within : (limit : ℕ) (ds : List DecimalNumber) → All (λ d. d.x
 unfolding greatest_decimals
 greatest_within limit [] h = omega arith
 greatest_within limit (d ∷ ds) h =
-    omega
-    (arith, All-head (λ (d : DecimalNumber). d.x ≤ limit) d ds h, greatest_within limit ds (All-tail (λ (d : DecimalNumber). d.x ≤ limit) d ds h))
+    omega (
+      arith,
+      All-head (λ (d : DecimalNumber). d.x ≤ limit) d ds h,
+      greatest_within limit ds
+          (All-tail (λ (d : DecimalNumber). d.x ≤ limit) d ds h),
+    )

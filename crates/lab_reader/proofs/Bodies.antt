@@ -22,7 +22,8 @@ pub record HasMarked (n : ℕ) (names : List (List ℕ)) (body : List WordLine) 
 pub marked_none : (n : ℕ) (names : List (List ℕ)) (body : List WordLine) → HasMarked n names body (replicate n 0) body
 marked_none n names body = record { front = []; split = refl; right = All-nil (IsSomeLabelLine n names); are = marks_none n names }
 
-pub marked_more : (n : ℕ) (names : List (List ℕ)) (body : List WordLine) (marks : List ℕ) (line : WordLine) (left : List WordLine) (state mask : ℕ)
+pub marked_more : (n : ℕ) (names : List (List ℕ)) (body : List WordLine) (marks : List ℕ) (line : WordLine) (left : List WordLine)
+    (state mask : ℕ)
     → HasMarked n names body marks (line ∷ left) → GivesMask n names line state mask
     → HasMarked n names body (marks_with marks state mask) left
 marked_more n names body marks line left state mask h g = record {
@@ -43,7 +44,8 @@ marked_all n names body marks h =
     }
 
 -- the next line fails
-pub failing_line : (n : ℕ) (names : List (List ℕ)) (body : List WordLine) (marks : List ℕ) (line : WordLine) (left : List WordLine) (w : FileWhat)
+pub failing_line : (n : ℕ) (names : List (List ℕ)) (body : List WordLine) (marks : List ℕ) (line : WordLine) (left : List WordLine)
+    (w : FileWhat)
     → HasMarked n names body marks (line ∷ left) → LineFailsBy n names line w → BodyFails n names body line.number w
 failing_line n names body marks line left w h fails =
     record { front = h.front; line = line; more = left; split = h.split; right = h.right; fails = fails; here = refl }

@@ -126,7 +126,8 @@ names_front names more h =
     record {
       each = λ k d l. subst (λ z. IsTrue (is_name z)) (get_or_append_left names more d k l) (h.each k d (omega arith));
       distinct =
-          λ i j d l k e. h.distinct i j d l (omega arith) (get_or_append_left names more d i (omega arith) ∙ e ∙ sym (get_or_append_left names more d j k));
+          λ i j d l k e. h.distinct i j d l (omega arith)
+          (get_or_append_left names more d i (omega arith) ∙ e ∙ sym (get_or_append_left names more d j k));
       few = omega (arith, h.few);
     }
 
@@ -187,7 +188,8 @@ module _ (n : ℕ) (lines : List WordLine) (end : ℕ) where
   -- a line that doesn't close the declarations, by its words
   at_words : (names : List (List ℕ)) (line : WordLine) (left : List WordLine) → HasNames lines names (line ∷ left) → ¬ IsClosing line
       → ((now : List (List ℕ)) → HasNames lines now left → IsHeadCase n lines end (run_lines end now left))
-      → (c : WordsCase) → run_words names line.words ≡ c → IsWordsCase names line.words c → IsHeadCase n lines end (run_lines end names (line ∷ left))
+      → (c : WordsCase) → run_words names line.words ≡ c → IsWordsCase names line.words c
+      → IsHeadCase n lines end (run_lines end names (line ∷ left))
   at_words names line left h other next (Declared now) is k =
       subst (IsHeadCase n lines end) (sym (run_goes end names now line left (step_by names line (Declared now) other is)))
       (next now (names_line lines names now line left h other k.0 k.1))

@@ -89,7 +89,8 @@ pub name_told : (text : List ℕ) (names : List (List ℕ)) (line : WordLine) (m
     → IsToldBy (λ number w. (n : ℕ) → LabFaultAt text n number w) fault
 name_told text names line more h other fault told =
     told_weaker (λ number w. (number ≡ line.number) × HasFailingWord names line.words w) (λ number w. (n : ℕ) → LabFaultAt text n number w)
-    (λ number w f n. subst (λ z. LabFaultAt text n z w) (sym f.0) (failing_name n (word_lines_of text) (end_line_of text) names line more w h other f.1)) fault told
+    (λ number w f n. subst (λ z. LabFaultAt text n z w) (sym f.0)
+    (failing_name n (word_lines_of text) (end_line_of text) names line more w h other f.1)) fault told
 
 -- a fault of the declarations, which speak of no number of states
 pub of_declarations : (text : List ℕ) (n : ℕ) (fault : ReadFault) → IsToldBy (λ number w. (k : ℕ) → LabFaultAt text k number w) fault

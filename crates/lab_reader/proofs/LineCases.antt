@@ -106,7 +106,8 @@ mask_of_is (name ∷ names) labels =
   where
     bits_are : (name : List ℕ) (names labels : List (List ℕ)) (m : ℕ)
         → ((j : ℕ) → j < length names → IsTrue (bit_at m j == 1) ↔ Contains labels (get_or names j []))
-        → (j : ℕ) → j < length (name ∷ names) → IsTrue (bit_at (cond (among labels name) 1 0 + 2 * m) j == 1) ↔ Contains labels (get_or (name ∷ names) j [])
+        → (j : ℕ) → j < length (name ∷ names)
+        → IsTrue (bit_at (cond (among labels name) 1 0 + 2 * m) j == 1) ↔ Contains labels (get_or (name ∷ names) j [])
     bits_are name names labels m h zero l =
         let low = low_bit (among labels name) m in
         let is = among_decides labels name in
@@ -181,7 +182,14 @@ tests_hold : (n : ℕ) (names : List (List ℕ)) (line : WordLine) (state : ℕ)
 tests_hold n names line state labels false b h e f =
     record { state = state; others = labels; begins = h; outside = λ s. both_ways (is_state n state) e ((state_decides n state).1 s) }
 tests_hold n names line state labels true false h e f =
-    record { state = state; labels = labels; begins = h; is_state = (state_decides n state).0 e; undeclared = λ all. both_ways (all_among names labels) f ((labels_decide names labels).1 all) }
+    record {
+      state = state;
+      labels = labels;
+      begins = h;
+      is_state = (state_decides n state).0 e;
+      undeclared = λ all. both_ways
+          (all_among names labels) f ((labels_decide names labels).1 all);
+    }
 tests_hold n names line state labels true true h e f = record {
   labels = labels;
   is = record { begins = h; is_state = (state_decides n state).0 e; declared = (labels_decide names labels).0 f };

@@ -41,7 +41,14 @@ no_line_in x (k, l, e) = omega (arith, l)
 gives_earlier : (front : List WordLine) (line : WordLine) (state : ℕ) (name : List ℕ) → GivesLabel front state name
     → GivesLabel (front ++ line ∷ []) state name
 gives_earlier front line state name h =
-    record { line = h.line; there = Contains-append_left front (line ∷ []) h.line h.there; labels = h.labels; begins = h.begins; among = h.among }
+    record {
+      line = h.line;
+      there = Contains-append_left front (line ∷ []) h.line h.there;
+      labels = h.labels;
+      begins = h.begins;
+      among
+          = h.among;
+    }
 
 gives_here : (front : List WordLine) (line : WordLine) (state : ℕ) (labels : List (List ℕ)) (name : List ℕ)
     → BeginsWithNumber line state labels → Contains labels name → GivesLabel (front ++ line ∷ []) state name
@@ -127,7 +134,8 @@ marks_more n names front line state mask marks h g =
               ]
           | inr other ↦
               gives_earlier front line (s + 1) (name j)
-              ((h.given s j l k).0 (bit_on (get_or marks s 0) j (ap (λ z. bit_at z j) (sym (elsewhere s other)) ∙ on_bit (get_or now s 0) j t)))
+              ((h.given s j l k).0 (bit_on (get_or marks s 0) j
+              (ap (λ z. bit_at z j) (sym (elsewhere s other)) ∙ on_bit (get_or now s 0) j t)))
         ],
         λ t. elim (gives_cases front line state (s + 1) g.labels (name j) g.is.begins t) [
           | inl before ↦
@@ -135,13 +143,15 @@ marks_more n names front line state mask marks h g =
               elim (cases_eq s place) [
                 | inl same ↦
                     bit_on (get_or now s 0) j
-                    (ap (λ z. bit_at z j) (ap (λ z. get_or now z 0) same ∙ here) ∙ or_of_left old mask j (ap (λ z. bit_at (get_or marks z 0) j) (sym same) ∙ was))
+                    (ap (λ z. bit_at z j) (ap (λ z. get_or now z 0) same ∙ here) ∙ or_of_left old mask j
+                    (ap (λ z. bit_at (get_or marks z 0) j) (sym same) ∙ was))
                 | inr other ↦ bit_on (get_or now s 0) j (ap (λ z. bit_at z j) (elsewhere s other) ∙ was)
               ]
           | inr added ↦
               let same : s ≡ place = omega (arith, added.0) in
               bit_on (get_or now s 0) j
-              (ap (λ z. bit_at z j) (ap (λ z. get_or now z 0) same ∙ here) ∙ or_of_right old mask j (on_bit mask j ((g.mask_is.bits j k).1 added.1)))
+              (ap (λ z. bit_at z j) (ap (λ z. get_or now z 0) same ∙ here) ∙ or_of_right old mask j
+              (on_bit mask j ((g.mask_is.bits j k).1 added.1)))
         ],
       );
     }

@@ -98,4 +98,5 @@ pub masked_fails : (names all left : List (List ℕ)) (label : List ℕ) (mask :
     → ¬ Contains names label → ¬ All (Contains names) all
 masked_fails names all left label mask h none declared =
     none
-    (All-contains (Contains names) all label declared (subst (λ z. Contains z label) (sym h.split) (Contains-append_right h.earlier (label ∷ left) label (0, omega arith, refl))))
+    (All-contains (Contains names) all label declared
+    (subst (λ z. Contains z label) (sym h.split) (Contains-append_right h.earlier (label ∷ left) label (0, omega arith, refl))))

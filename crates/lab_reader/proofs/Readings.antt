@@ -67,25 +67,26 @@ lines_front n names marks (line ∷ lines) more right =
       leads = run_good n names marks line (lines ++ more) h.state mask (line_case_is n names line (Good h.state mask) g) ∙ next.leads;
     }
 
-module _ (n : ℕ) (lines : List WordLine) (end : ℕ) (names : List (List ℕ)) (body : List WordLine) (declares : Declares lines names body) where
-  -- one line more, by what it is
-  at_line : (marks : List ℕ) (line : WordLine) (left : List WordLine) → HasMarked n names body marks (line ∷ left)
-      → ((now : List ℕ) → HasMarked n names body now left → Holds n lines end (run n names now left))
-      → (c : LineCase) → line_case n names line ≡ c → Holds n lines end (run n names marks (line ∷ left))
-  at_line marks line left h next (Good state mask) is =
-      let g : GivesMask n names line state mask = subst (IsLineCase n names line) is (line_case_holds n names line) in
-      subst (Holds n lines end) (sym (run_good n names marks line left state mask is))
-      (next (marks_with marks state mask) (marked_more n names body marks line left state mask h g))
-  at_line marks line left h next (Wrong w) is =
-      let fails : LineFailsBy n names line w = subst (IsLineCase n names line) is (line_case_holds n names line) in
-      subst (Holds n lines end) (sym (run_wrong n names marks line left w is))
-      (body_faulty n lines end names body line.number w declares (failing_line n names body marks line left w h fails))
+module _ (n : ℕ) (lines : List WordLine) (end : ℕ) (names : List (List ℕ)) (body : List WordLine) (declares : Declares lines names body)
+  where
+    -- one line more, by what it is
+    at_line : (marks : List ℕ) (line : WordLine) (left : List WordLine) → HasMarked n names body marks (line ∷ left)
+        → ((now : List ℕ) → HasMarked n names body now left → Holds n lines end (run n names now left))
+        → (c : LineCase) → line_case n names line ≡ c → Holds n lines end (run n names marks (line ∷ left))
+    at_line marks line left h next (Good state mask) is =
+        let g : GivesMask n names line state mask = subst (IsLineCase n names line) is (line_case_holds n names line) in
+        subst (Holds n lines end) (sym (run_good n names marks line left state mask is))
+        (next (marks_with marks state mask) (marked_more n names body marks line left state mask h g))
+    at_line marks line left h next (Wrong w) is =
+        let fails : LineFailsBy n names line w = subst (IsLineCase n names line) is (line_case_holds n names line) in
+        subst (Holds n lines end) (sym (run_wrong n names marks line left w is))
+        (body_faulty n lines end names body line.number w declares (failing_line n names body marks line left w h fails))
 
-  run_holds : (marks : List ℕ) (left : List WordLine) → HasMarked n names body marks left → Holds n lines end (run n names marks left)
-  unfolding run
-  run_holds marks [] h = body_said n lines names body marks declares (marked_all n names body marks h)
-  run_holds marks (line ∷ left) h =
-      at_line marks line left h (λ now. run_holds now left) (line_case n names line) refl
+    run_holds : (marks : List ℕ) (left : List WordLine) → HasMarked n names body marks left → Holds n lines end (run n names marks left)
+    unfolding run
+    run_holds marks [] h = body_said n lines names body marks declares (marked_all n names body marks h)
+    run_holds marks (line ∷ left) h =
+        at_line marks line left h (λ now. run_holds now left) (line_case n names line) refl
 
 -- ---- the whole text
 

@@ -25,16 +25,26 @@ module _ {X : Type 0} where
   pub AllPairs-from_rising : (n : X → ℕ) (xs : List X) → IsStrictlyIncreasing (map n xs) → AllPairs (λ x y. n x < n y) xs
   AllPairs-from_rising n xs h i j d l b =
       let long : length (map n xs) ≡ length xs = length-map xs n in
-      omega
-      (arith, AllPairs-from_increasing (map n xs) h i j (n d) l (omega arith), get_or-map n xs i d (n d) (omega arith), get_or-map n xs j d (n d) b)
+      omega (
+        arith,
+        AllPairs-from_increasing (map n xs) h i j (n d) l (omega arith),
+        get_or-map n xs i d (n d) (omega arith),
+        get_or-map n xs j d
+            (n d) b,
+      )
 
   -- where each number is below all later ones, the numbers rise
   pub rising-from_AllPairs : (n : X → ℕ) (xs : List X) → AllPairs (λ x y. n x < n y) xs → IsStrictlyIncreasing (map n xs)
   rising-from_AllPairs n [] h k l = absurd (omega arith)
   rising-from_AllPairs n (x ∷ xs) h k l =
       let long : length (map n (x ∷ xs)) ≡ length (x ∷ xs) = length-map (x ∷ xs) n in
-      omega
-      (arith, h k (k + 1) x (omega arith) (omega arith), get_or-map n (x ∷ xs) k x 0 (omega arith), get_or-map n (x ∷ xs) (k + 1) x 0 (omega arith))
+      omega (
+        arith,
+        h k (k + 1) x (omega arith) (omega arith),
+        get_or-map n (x ∷ xs) k x 0 (omega arith),
+        get_or-map n (x ∷ xs) (k + 1) x 0
+            (omega arith),
+      )
 
   -- a test that two places pass is passed twice
   pub two_pass : (p : X → Bool) (xs : List X) (i j : ℕ) (d : X) → i < j → j < length xs → p (get_or xs i d) ≡ true

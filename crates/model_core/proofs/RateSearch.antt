@@ -30,8 +30,13 @@ module _ {X : Type 0} (f : X → ℕ) where
   sum_by-one (x ∷ xs) zero d l h =
       omega (arith, sum_by-cons f x xs, sum_by-none xs (λ k e b. h (suc k) e (omega arith) (λ same. omega (arith, same))))
   sum_by-one (x ∷ xs) (suc i) d l h =
-      omega
-      (arith, sum_by-cons f x xs, h 0 x (omega arith) (λ same. omega (arith, same)), sum_by-one xs i d (omega arith) (λ k e b other. h (suc k) e (omega arith) (λ same. other (omega (arith, same)))))
+      omega (
+        arith,
+        sum_by-cons f x xs,
+        h 0 x (omega arith) (λ same. omega (arith, same)),
+        sum_by-one xs i d (omega arith)
+            (λ k e b other. h (suc k) e (omega arith) (λ same. other (omega (arith, same)))),
+      )
 
 -- a number under two tests that pass
 where_both : (a b : Bool) (x : ℕ) → a ≡ true → b ≡ true → cond (a && b) x 0 ≡ x
@@ -114,14 +119,18 @@ rate_at_place model s t i d m small l found =
 
 -- where the search finds no place, the rate is 0
 pub rate_at_none : (model : ModelLists) (s t i : ℕ) → IsModel model
-    → (IsNonDecreasingBy (λ r. ordering_index (nat_cmp (pair_number r.from r.to) (pair_number s t))) model.rates → IsPartitionPoint (λ r. nat_cmp (pair_number r.from r.to) (pair_number s t) ≡ Less) (λ r. nat_cmp (pair_number r.from r.to) (pair_number s t) ≡ Greater) model.rates i)
+    → (IsNonDecreasingBy (λ r. ordering_index (nat_cmp (pair_number r.from r.to) (pair_number s t))) model.rates → IsPartitionPoint
+    (λ r. nat_cmp (pair_number r.from r.to) (pair_number s t) ≡ Less) (λ r. nat_cmp (pair_number r.from r.to) (pair_number s t) ≡ Greater)
+    model.rates i)
     → rate_between model.rates s t ≡ 0
 rate_at_none model s t i m searched =
     let number : ℕ = pair_number s t in
     let at : ℕ → Rate → ℕ = λ k d. pair_number (get_or model.rates k d).from (get_or model.rates k d).to in
-    let point : IsPartitionPoint (λ (r : Rate). nat_cmp (pair_number r.from r.to) number ≡ Less) (λ (r : Rate). nat_cmp (pair_number r.from r.to) number ≡ Greater) model.rates i =
+    let point : IsPartitionPoint (λ (r : Rate). nat_cmp (pair_number r.from r.to) number ≡ Less)
+    (λ (r : Rate). nat_cmp (pair_number r.from r.to) number ≡ Greater) model.rates i =
     searched
-    (λ k j d l b. index_rises (at k d) (at j d) number (nat_cmp (at k d) number) (nat_cmp (at j d) number) (IsNonDecreasingBy-from_order model.rates m.order k j d l b) (ranked (at k d) number _ refl) (ranked (at j d) number _ refl)) in
+    (λ k j d l b. index_rises (at k d) (at j d) number (nat_cmp (at k d) number) (nat_cmp (at j d) number)
+    (IsNonDecreasingBy-from_order model.rates m.order k j d l b) (ranked (at k d) number _ refl) (ranked (at j d) number _ refl)) in
     rate_between-none model.rates s t
     (λ k d b. elim (leb_tells i k) [
       | inl after ↦ greater_differs (at k d) number (point.1 k d after.1 b)
@@ -129,7 +138,8 @@ rate_at_none model s t i m searched =
     ])
 
 -- the same of lists and numbers that are equal to a model's
-module _ (inside model : ModelLists) (s t number : ℕ) (rates : List Rate) (same : inside ≡ model) (m : IsModel inside) (all : rates ≡ inside.rates) (is : number ≡ pair_number s t) where
+module _ (inside model : ModelLists) (s t number : ℕ) (rates : List Rate) (same : inside ≡ model) (m : IsModel inside)
+    (all : rates ≡ inside.rates) (is : number ≡ pair_number s t) where
   -- the search found the transition
   pub found_rate : (i : ℕ) (r : Rate) → t < 2 ^ 32 → i < length rates
       → HoldsAt (λ x. nat_cmp (pair_number x.from x.to) number ≡ Equal) rates i → r ≡ get_or inside.rates i r
@@ -144,7 +154,8 @@ module _ (inside model : ModelLists) (s t number : ℕ) (rates : List Rate) (sam
 
   -- the search found none
   pub no_rate : (i : ℕ)
-      → (IsNonDecreasingBy (λ r. ordering_index (nat_cmp (pair_number r.from r.to) number)) rates → IsPartitionPoint (λ r. nat_cmp (pair_number r.from r.to) number ≡ Less) (λ r. nat_cmp (pair_number r.from r.to) number ≡ Greater) rates i)
+      → (IsNonDecreasingBy (λ r. ordering_index (nat_cmp (pair_number r.from r.to) number)) rates → IsPartitionPoint
+      (λ r. nat_cmp (pair_number r.from r.to) number ≡ Less) (λ r. nat_cmp (pair_number r.from r.to) number ≡ Greater) rates i)
       → 0 ≡ rate_between model.rates s t
   no_rate i searched =
       let claim : ℕ → List Rate → Type 0 =

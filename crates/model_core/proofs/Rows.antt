@@ -43,7 +43,8 @@ module _ {X : Type 0} where
   count_by-partition_point p (x ∷ xs) (suc i) l h =
       count_by-yes p x xs (h.0 0 x (omega arith) (omega arith))
       ∙ ap suc
-      (count_by-partition_point p xs i (omega arith) ((λ k d low high. h.0 (suc k) d (omega arith) (omega arith)), λ k d low high. h.1 (suc k) d (omega arith) (omega arith)))
+      (count_by-partition_point p xs i (omega arith)
+      ((λ k d low high. h.0 (suc k) d (omega arith) (omega arith)), λ k d low high. h.1 (suc k) d (omega arith) (omega arith)))
 
   -- a part that begins past the first element
   slice_range-both : (x : X) (xs : List X) (a b a' b' : ℕ) → a' ≡ suc a → b' ≡ suc b → slice_range (x ∷ xs) a' b' ≡ slice_range xs a b
@@ -85,7 +86,8 @@ module _ {X : Type 0} where
             passed_over (n x == s) _ _ (ne_eqb (n x) s (λ e. omega arith))
             ∙ rest
             ∙ sym
-            (slice_range-both x xs (below n s xs) (below n (s + 1) xs) _ _ (count_by-yes (λ y. ltb (n y) s) x xs (lt-ltb (n x) s l)) (count_by-yes (λ y. ltb (n y) (s + 1)) x xs (lt-ltb (n x) (s + 1) (omega arith))))
+            (slice_range-both x xs (below n s xs) (below n (s + 1) xs) _ _ (count_by-yes (λ y. ltb (n y) s) x xs (lt-ltb (n x) s l))
+            (count_by-yes (λ y. ltb (n y) (s + 1)) x xs (lt-ltb (n x) (s + 1) (omega arith))))
         | inl higher ↦
             let none : below n s xs ≡ 0 = below-none n s xs (λ k d l. omega (arith, front k d l, higher.1)) in
             let no : below n s (x ∷ xs) ≡ 0 = count_by-no (λ y. ltb (n y) s) x xs (le-ltb (n x) s higher.1) ∙ none in
@@ -94,7 +96,8 @@ module _ {X : Type 0} where
                   chosen (n x == s) _ _ same.0
                   ∙ ap (λ ys. x ∷ ys) rest
                   ∙ sym
-                  (slice_range-first x xs (below n s xs) (below n (s + 1) xs) _ _ none no (count_by-yes (λ y. ltb (n y) (s + 1)) x xs (lt-ltb (n x) (s + 1) (omega (arith, same.1)))))
+                  (slice_range-first x xs (below n s xs) (below n (s + 1) xs) _ _ none no
+                  (count_by-yes (λ y. ltb (n y) (s + 1)) x xs (lt-ltb (n x) (s + 1) (omega (arith, same.1)))))
               | inr other ↦
                   let above : s + 1 ≤ n x = omega (arith, other.1, higher.1) in
                   let none_next : below n (s + 1) xs ≡ 0 = below-none n (s + 1) xs (λ k d l. omega (arith, front k d l)) in

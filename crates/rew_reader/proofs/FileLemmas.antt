@@ -82,13 +82,16 @@ first_past scale place es h = record {
   there = h.there;
   within = All-map (λ e. scaled scale e.value < AMOUNT_LIMIT) (entry_of state_number) (take place es) h.before;
   past = subst (HasTooLarge scale) (sym (map-more (entry_of state_number) es place no_entry h.there))
-      (Any-push (λ e. AMOUNT_LIMIT ≤ scaled scale e.value) (entries_of state_number (take place es)) (entry_of state_number (get_or es place no_entry)) (h.large no_entry));
+      (Any-push (λ e. AMOUNT_LIMIT ≤ scaled scale e.value) (entries_of state_number (take place es))
+      (entry_of state_number (get_or es place no_entry)) (h.large no_entry));
 }
 
 -- so it is on the line that does
 pub line_large : (n scale place : ℕ) (lines : List WordLine) (es : List (EntryLine ℕ)) (d : EntryLine ℕ)
     → AreRead (reward_lines n) state_number lines es
-    → scale ≡ greatest_decimals (map value_of es) → IsFirstLarge scale es place → HasLinePast (reward_lines n) AreWithin HasTooLarge lines (get_or es place d).line
+    → scale ≡ greatest_decimals (map value_of es) → IsFirstLarge scale es place
+    → HasLinePast (reward_lines n) AreWithin HasTooLarge lines (get_or es place d).line
 line_large n scale place lines es d read is h =
     line_past (reward_lines n) state_number AreWithin HasTooLarge lines es place d read
-    (subst (λ z. IsFirstPast state_number (AreWithin z) (HasTooLarge z) es place) (is ∙ same_scale (reward_lines n) state_number es) (first_past scale place es h))
+    (subst (λ z. IsFirstPast state_number (AreWithin z) (HasTooLarge z) es place) (is ∙ same_scale (reward_lines n) state_number es)
+    (first_past scale place es h))

@@ -105,7 +105,8 @@ module _ (n : ℕ) (lines : List WordLine) where
   lines_hold (Right entries) h =
       let d = scale_of entries in
       scale_holds entries h (first_large d lines entries)
-      (first_past_holds (AreWithin d) (HasTooLarge d) (reward_limit d) [] lines entries (zip_long (IsEntry (reward_lines n)) lines entries h.each) (reward_limit d).none)
+      (first_past_holds (AreWithin d) (HasTooLarge d) (reward_limit d) [] lines entries
+      (zip_long (IsEntry (reward_lines n)) lines entries h.each) (reward_limit d).none)
 
   holds : IsReading (LinesSayRew n lines) (LinesHaveFault n lines) reading
   unfolding reading

@@ -39,7 +39,8 @@ pick-elsewhere scale s e other = ap (λ b. cond b (scaled scale e.value) 0) (ne_
 
 -- with one entry more
 reward_of-more : (scale : ℕ) (es : List (EntryLine ℕ)) (i : ℕ) (d : EntryLine ℕ) (s : ℕ) → i < length es
-    → reward_of scale (entries (take (i + 1) es)) s ≡ reward_of scale (entries (take i es)) s + pick scale s (entry_of state_number (get_or es i d))
+    → reward_of scale (entries (take (i + 1) es)) s ≡ reward_of scale (entries (take i es)) s + pick scale s
+    (entry_of state_number (get_or es i d))
 reward_of-more scale es i d s within =
     ap (sum_by (pick scale s)) (map-more (entry_of state_number) es i d within)
     ∙ sum_by_push (pick scale s) (entries (take i es)) (entry_of state_number (get_or es i d))

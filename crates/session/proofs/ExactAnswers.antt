@@ -80,7 +80,8 @@ next_answer_exact by p q positive =
       low = rounded_down p positive;
       high = rounded_up p positive;
       satisfied = ((λ e. from_point by p q (says.satisfied.0 e)), (λ h. says.satisfied.1 (to_point by p q h)));
-      refuted = ((λ e. not.0 (from_point (opposite by) p q (says.refuted.0 e))), (λ h. says.refuted.1 (to_point (opposite by) p q (not.1 h))));
+      refuted =
+          ((λ e. not.0 (from_point (opposite by) p q (says.refuted.0 e))), (λ h. says.refuted.1 (to_point (opposite by) p q (not.1 h))));
     }
 
 -- ---- until

@@ -70,7 +70,8 @@ formula_name a b bytes (Until op d t) (Until other e u) p q =
     until_name a b two.path t u (subst (λ z. IsUntilEnd a z t) same.2 one.ends) two.ends
 
 -- of names that are all different, one stands at one place
-pub one_place : (names : List (List ℕ)) (i j : ℕ) → AllPairs ◌≢◌ names → i < length names → j < length names → name_at names i ≡ name_at names j → i ≡ j
+pub one_place : (names : List (List ℕ)) (i j : ℕ) → AllPairs ◌≢◌ names → i < length names → j < length names
+    → name_at names i ≡ name_at names j → i ≡ j
 one_place names i j distinct p q e = by_order (cases_lt i j) (cases_lt j i)
   where
     by_order : (i < j) ⊎ (j ≤ i) → (j < i) ⊎ (i ≤ j) → i ≡ j

@@ -16,7 +16,8 @@ pub record IsWrittenBefore (text rest : List ℕ) (before now : Option (List ℕ
 
 module _ (text : List ℕ) (a b : Option (List ℕ)) where
   -- the next piece is written too
-  pub piece_written : (c : Option (List ℕ)) (piece rest : List ℕ) → IsWrittenBefore text (piece ++ rest) a b → Appends b c piece → IsWrittenBefore text rest a c
+  pub piece_written : (c : Option (List ℕ)) (piece rest : List ℕ) → IsWrittenBefore text (piece ++ rest) a b → Appends b c piece
+      → IsWrittenBefore text rest a c
   piece_written c piece rest w p = record {
     done = w.done ++ piece;
     splits = w.splits ∙ sym (append_assoc w.done piece rest);
@@ -24,13 +25,15 @@ module _ (text : List ℕ) (a b : Option (List ℕ)) where
   }
 
   -- a front of the next piece is written
-  pub front_of_piece : (c : Option (List ℕ)) (piece rest : List ℕ) → IsWrittenBefore text (piece ++ rest) a b → WritesFront piece b c → WritesFront text a c
+  pub front_of_piece : (c : Option (List ℕ)) (piece rest : List ℕ) → IsWrittenBefore text (piece ++ rest) a b → WritesFront piece b c
+      → WritesFront text a c
   front_of_piece c piece rest w p = record {
     count = length w.done + p.count;
     within = omega (arith, ap length w.splits, length-append w.done (piece ++ rest), length-append piece rest, p.within);
     written =
         subst (Appends a c)
-        (sym (ap (take (length w.done + p.count)) w.splits ∙ take-append-add w.done (piece ++ rest) p.count ∙ ap (λ l. w.done ++ l) (take-append-le p.count piece rest p.within)))
+        (sym (ap (take (length w.done + p.count)) w.splits ∙ take-append-add w.done (piece ++ rest) p.count ∙ ap (λ l. w.done ++ l)
+        (take-append-le p.count piece rest p.within)))
         (Appends-trans a b c w.done (take p.count piece) w.written p.written);
   }
 
@@ -67,19 +70,22 @@ line_is line items start piece e f n = e ∙ f ∙ ap (λ l. l ++ piece) n
 module _ (states : List StateAnswer) (a b c : Option (List ℕ)) (line items start : List ℕ) (is : line ≡ items) (empty : start ≡ [])
     (s : ℕ) (d : StateAnswer) (below : s < length states) (put : items ≡ start ++ state_line (s + 1) (get_or states s d))
     (lines : IsWrittenBefore (state_lines 1 states) (state_lines (s + 1) (drop s states)) a b) where
-  next : IsWrittenBefore (state_lines 1 states) (state_line (s + 1) (get_or states s d) ++ state_lines ((s + 1) + 1) (drop (s + 1) states)) a b
+  next : IsWrittenBefore (state_lines 1 states) (state_line (s + 1) (get_or states s d) ++ state_lines ((s + 1) + 1) (drop (s + 1) states))
+      a b
   next = subst (λ r. IsWrittenBefore (state_lines 1 states) r a b) (state_lines_more states s d below) lines
 
   -- a front of the next state's line is written
   pub front_of_state : WritesFront line b c → WritesFront (state_lines 1 states) a c
   front_of_state p =
-      front_of_piece (state_lines 1 states) a b c (state_line (s + 1) (get_or states s d)) (state_lines ((s + 1) + 1) (drop (s + 1) states)) next
+      front_of_piece (state_lines 1 states) a b c (state_line (s + 1) (get_or states s d))
+      (state_lines ((s + 1) + 1) (drop (s + 1) states)) next
       (subst (λ l. WritesFront l b c) (line_is line items start (state_line (s + 1) (get_or states s d)) is put empty) p)
 
   -- the next state's line is written
   pub state_written : Appends b c line → IsWrittenBefore (state_lines 1 states) (state_lines ((s + 1) + 1) (drop (s + 1) states)) a c
   state_written p =
-      piece_written (state_lines 1 states) a b c (state_line (s + 1) (get_or states s d)) (state_lines ((s + 1) + 1) (drop (s + 1) states)) next
+      piece_written (state_lines 1 states) a b c (state_line (s + 1) (get_or states s d)) (state_lines ((s + 1) + 1) (drop (s + 1) states))
+      next
       (subst (λ l. Appends b c l) (line_is line items start (state_line (s + 1) (get_or states s d)) is put empty) p)
 
 -- ---- the three parts of an answer
@@ -90,7 +96,8 @@ module _ (formula : List ℕ) (horizon : Option ℕ) (states : List StateAnswer)
       front_of_piece (answer_text formula horizon states) a a b (formula_line formula) (horizon_line horizon ++ state_lines 1 states)
       (record { done = []; splits = refl; written = Appends-nil a }) p
 
-  after_formula : Appends a b (formula_line formula) → IsWrittenBefore (answer_text formula horizon states) (horizon_line horizon ++ state_lines 1 states) a b
+  after_formula : Appends a b (formula_line formula)
+      → IsWrittenBefore (answer_text formula horizon states) (horizon_line horizon ++ state_lines 1 states) a b
   after_formula p = record { done = formula_line formula; splits = refl; written = p }
 
   -- the formula's line is written, and a front of the horizon's

@@ -113,7 +113,8 @@ module _ (last : ℕ) (weights : WeightLists) (sound : AreSoundWeights last weig
   pub lower_le : (x : ℕ → ℕ) → ((k : ℕ) → k ≤ last → x k ≤ 2 ^ 62)
       → sum_below (suc last) (λ k. low k * x k / 2 ^ 14) / div_ceil (sum_below (suc last) high) (2 ^ 14) ≤ 2 ^ 62
   lower_le x h =
-      cap_whole (2 ^ 62) (2 ^ 14) _ (div_ceil (sum_below (suc last) high) (2 ^ 14)) (sum_below (suc last) (λ k. low k * x k)) (sum_below (suc last) high)
+      cap_whole (2 ^ 62) (2 ^ 14) _ (div_ceil (sum_below (suc last) high) (2 ^ 14)) (sum_below (suc last) (λ k. low k * x k))
+      (sum_below (suc last) high)
       (omega arith) high_positive
       (sum_below_whole (suc last) (2 ^ 14) (λ k. low k * x k))
       (sum_capped (suc last) (2 ^ 62) low high x (λ k l. sound.ordered k (omega arith)) (λ k l. h k (omega arith)))
@@ -132,7 +133,8 @@ read_weighted rounding n m s r xs ys t u sums has e f inside read =
     ∙ ap (λ z. weighted_sum rounding m ys (column z s)) f
 
 pub weighted_sum_le : (rounding : Rounding) (last n s : ℕ) (weights : List ℕ) (table : List (List ℕ)) → IsWordTable last n table
-    → ((k : ℕ) → k ≤ last → get_or weights k 0 ≤ 2 ^ 62) → s < n → weighted_sum rounding (suc last) weights (column table s) ≤ suc last * 2 ^ 110
+    → ((k : ℕ) → k ≤ last → get_or weights k 0 ≤ 2 ^ 62) → s < n
+    → weighted_sum rounding (suc last) weights (column table s) ≤ suc last * 2 ^ 110
 weighted_sum_le rounding last n s weights table is small inside =
     terms_le rounding (suc last) weights (column table s) (λ j l. small j (omega arith)) (λ j l. is.at_most_one j s (omega arith) inside)
 
@@ -150,12 +152,14 @@ brackets_more last bits s weights tables brackets b so_far e f =
     ∙ sym (map-range_with_len_more (column_mixes last bits weights tables) 0 s s (omega arith))
 
 -- ---- the brackets are words
-module _ (last bits n : ℕ) (weights : WeightLists) (tables : TableLists) (brackets : List Bracket) (are : brackets ≡ first_mixes last bits weights tables n) where
+module _ (last bits n : ℕ) (weights : WeightLists) (tables : TableLists) (brackets : List Bracket)
+    (are : brackets ≡ first_mixes last bits weights tables n) where
   pub mixes_counted : length brackets ≡ n
   mixes_counted = ap length are ∙ length-map-range_with_len (column_mixes last bits weights tables) 0 n
 
   pub mix_read : (s : ℕ) (d : Bracket) → s < n → get_or brackets s d ≡ column_mixes last bits weights tables s
-  mix_read s d inside = ap (λ z. get_or z s d) are ∙ get_or-map-range_with_len (column_mixes last bits weights tables) 0 n s s d inside (omega arith)
+  mix_read s d inside =
+      ap (λ z. get_or z s d) are ∙ get_or-map-range_with_len (column_mixes last bits weights tables) 0 n s s d inside (omega arith)
 
   pub lower_words : AreSoundWeights last weights → IsWordTable last n tables.low → All (λ b. b.lower ≤ 2 ^ 62) brackets
   lower_words sound is = λ s d l.

@@ -21,10 +21,13 @@ module _ (pairs : List Pair) (name : List ℕ) where
       let long : FILE_LIMIT < length a = subst (λ o. IsSomeAnd o (λ bytes. FILE_LIMIT < length bytes)) p big in
       omega (arith, w, long)
 
-  module _ {A : Type 0} (Says : List ℕ → A → Type 0) (FaultAt : List ℕ → ℕ → FileWhat → Type 0) (is : (text : List ℕ) → HasReading (Says text) (FaultAt text)) where
-    pub one_value : (a b : A) → TakesText name (Some pairs) (λ bytes. Says bytes a) → TakesText name (Some pairs) (λ bytes. Says bytes b) → a ≡ b
+  module _ {A : Type 0} (Says : List ℕ → A → Type 0) (FaultAt : List ℕ → ℕ → FileWhat → Type 0)
+      (is : (text : List ℕ) → HasReading (Says text) (FaultAt text)) where
+    pub one_value : (a b : A) → TakesText name (Some pairs) (λ bytes. Says bytes a) → TakesText name (Some pairs) (λ bytes. Says bytes b)
+        → a ≡ b
     one_value a b p q =
-        reading.one_value (Says p.bytes) (FaultAt p.bytes) (is p.bytes) a b p.is_so (subst (λ t. Says t b) (same_bytes p.bytes q.bytes p.is_file q.is_file) q.is_so)
+        reading.one_value (Says p.bytes) (FaultAt p.bytes) (is p.bytes) a b p.is_so
+        (subst (λ t. Says t b) (same_bytes p.bytes q.bytes p.is_file q.is_file) q.is_so)
 
     pub no_fault : (a : A) (line : ℕ) (what : FileWhat) → TakesText name (Some pairs) (λ bytes. Says bytes a)
         → IsFaulty name (Some pairs) FaultAt line what → ⊥
@@ -56,7 +59,8 @@ module _ (pairs : List Pair) (name : List ℕ) where
           | inr within ↦ of_bytes bytes here within (reading.value_or_fault (Says bytes) (FaultAt bytes) (is bytes))
         ]
 
-    pub one_fault : (k l : ℕ) (v w : FileWhat) → IsFaulty name (Some pairs) FaultAt k v → IsFaulty name (Some pairs) FaultAt l w → (k ≡ l) × (v ≡ w)
+    pub one_fault : (k l : ℕ) (v w : FileWhat) → IsFaulty name (Some pairs) FaultAt k v → IsFaulty name (Some pairs) FaultAt l w
+        → (k ≡ l) × (v ≡ w)
     one_fault k l v w (inl p) (inl q) = (p.at_no_line ∙ sym q.at_no_line, p.told ∙ sym q.told)
     one_fault k l v w (inl p) (inr q) = absurd (not_too_big q.bytes q.is_file q.within p.too_big)
     one_fault k l v w (inr p) (inl q) = absurd (not_too_big p.bytes p.is_file p.within q.too_big)

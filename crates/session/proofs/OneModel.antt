@@ -24,9 +24,11 @@ module _ (pairs : List Pair) where
   one_tra name a b p q = file.one_value pairs name TraSays TraFaultAt tra_reading a b p q
 
   one_lab : (n : ℕ) (name : List ℕ) (a b : LabLists) → TakesLab n name (Some pairs) a → TakesLab n name (Some pairs) b → a ≡ b
-  one_lab n name a b p q = file.one_value pairs name (λ text a. LabSays text n a) (λ text. LabFaultAt text n) (λ text. lab_reading text n) a b p q
+  one_lab n name a b p q =
+      file.one_value pairs name (λ text a. LabSays text n a) (λ text. LabFaultAt text n) (λ text. lab_reading text n) a b p q
 
-  one_rew : (n : ℕ) (name : Option (List ℕ)) (a b : Option RewLists) → TakesRew n name (Some pairs) a → TakesRew n name (Some pairs) b → a ≡ b
+  one_rew : (n : ℕ) (name : Option (List ℕ)) (a b : Option RewLists) → TakesRew n name (Some pairs) a → TakesRew n name (Some pairs) b
+      → a ≡ b
   one_rew n None None None p q = refl
   one_rew n None None (Some b) p q = absurd q
   one_rew n None (Some a) b p q = absurd p
@@ -35,7 +37,8 @@ module _ (pairs : List Pair) where
   one_rew n (Some name) (Some a) (Some b) p q =
       ap Some (file.one_value pairs name (λ text a. RewSays text n a) (λ text. RewFaultAt text n) (λ text. rew_reading text n) a b p q)
 
-  no_tra_fault : (name : List ℕ) (a : TraLists) (line : ℕ) (what : FileWhat) → TakesTra name (Some pairs) a → IsTraFaulty name (Some pairs) line what → ⊥
+  no_tra_fault : (name : List ℕ) (a : TraLists) (line : ℕ) (what : FileWhat) → TakesTra name (Some pairs) a
+      → IsTraFaulty name (Some pairs) line what → ⊥
   no_tra_fault name a line what p q = file.no_fault pairs name TraSays TraFaultAt tra_reading a line what p q
 
   no_lab_fault : (n : ℕ) (name : List ℕ) (a : LabLists) (line : ℕ) (what : FileWhat) → TakesLab n name (Some pairs) a
@@ -50,7 +53,8 @@ module _ (pairs : List Pair) where
   no_rew_fault n (Some name) (Some a) line what p q =
       file.no_fault pairs name (λ text a. RewSays text n a) (λ text. RewFaultAt text n) (λ text. rew_reading text n) a line what p q
 
-  one_rew_fault : (n : ℕ) (name : Option (List ℕ)) (k l : ℕ) (v w : FileWhat) → IsRewFaulty n name (Some pairs) k v → IsRewFaulty n name (Some pairs) l w
+  one_rew_fault : (n : ℕ) (name : Option (List ℕ)) (k l : ℕ) (v w : FileWhat) → IsRewFaulty n name (Some pairs) k v
+      → IsRewFaulty n name (Some pairs) l w
       → (k ≡ l) × (v ≡ w)
   one_rew_fault n None k l v w p q = absurd p
   one_rew_fault n (Some name) k l v w p q =
@@ -63,7 +67,8 @@ module _ (pairs : List Pair) where
 
   module _ (names : FileNames) where
     -- the labels that follow one chain follow the other
-    lab_after : (t u : TraLists) (a b : LabLists) → t ≡ u → TakesLab t.n names.lab (Some pairs) a → TakesLab u.n names.lab (Some pairs) b → a ≡ b
+    lab_after : (t u : TraLists) (a b : LabLists) → t ≡ u → TakesLab t.n names.lab (Some pairs) a → TakesLab u.n names.lab (Some pairs) b
+        → a ≡ b
     lab_after t u a b e p q = one_lab t.n names.lab a b p (subst (λ x. TakesLab x.n names.lab (Some pairs) b) (sym e) q)
 
     pub one_model : (a b : TakesModel names (Some pairs)) → SameModel names a b
@@ -72,7 +77,8 @@ module _ (pairs : List Pair) where
         record { tra = tra; lab = lab_after a.tra b.tra a.lab b.lab tra a.takes_lab b.takes_lab }
 
     -- files that stand for a model have no fault
-    pub no_model_fault : (a : TakesModel names (Some pairs)) (f : Which) (line : ℕ) (what : FileWhat) → IsFaultyAt names (Some pairs) f line what → ⊥
+    pub no_model_fault : (a : TakesModel names (Some pairs)) (f : Which) (line : ℕ) (what : FileWhat)
+        → IsFaultyAt names (Some pairs) f line what → ⊥
     no_model_fault a TraFile line what h = no_tra_fault names.tra a.tra line what a.takes_tra h
     no_model_fault a LabFile line what h =
         no_lab_fault a.tra.n names.lab a.lab line what a.takes_lab
@@ -82,7 +88,8 @@ module _ (pairs : List Pair) where
         (subst (λ t. IsRewFaulty t.n names.rew (Some pairs) line what) (one_tra names.tra h.tra a.tra h.takes_tra a.takes_tra) h.faulty)
 
     -- one file is the first that has a fault
-    not_both_files : (k l : ℕ) (v w : FileWhat) (p : IsLabFaultyAfter names (Some pairs) k v) (q : IsRewFaultyAfter names (Some pairs) l w) → ⊥
+    not_both_files : (k l : ℕ) (v w : FileWhat) (p : IsLabFaultyAfter names (Some pairs) k v) (q : IsRewFaultyAfter names (Some pairs) l w)
+        → ⊥
     not_both_files k l v w p q =
         no_lab_fault q.tra.n names.lab q.lab k v q.takes_lab
         (subst (λ t. IsLabFaulty t.n names.lab (Some pairs) k v) (one_tra names.tra p.tra q.tra p.takes_tra q.takes_tra) p.faulty)
@@ -97,8 +104,10 @@ module _ (pairs : List Pair) where
     one_fault_at LabFile TraFile k l v w p q = absurd (no_tra_fault names.tra p.tra l w p.takes_tra q)
     one_fault_at LabFile LabFile k l v w p q =
         let same =
-        file.one_fault pairs names.lab (λ text a. LabSays text q.tra.n a) (λ text. LabFaultAt text q.tra.n) (λ text. lab_reading text q.tra.n) k l v w
-        (subst (λ t. IsLabFaulty t.n names.lab (Some pairs) k v) (one_tra names.tra p.tra q.tra p.takes_tra q.takes_tra) p.faulty) q.faulty in
+        file.one_fault pairs names.lab (λ text a. LabSays text q.tra.n a) (λ text. LabFaultAt text q.tra.n)
+        (λ text. lab_reading text q.tra.n) k l v w
+        (subst (λ t. IsLabFaulty t.n names.lab (Some pairs) k v) (one_tra names.tra p.tra q.tra p.takes_tra q.takes_tra) p.faulty) q.faulty
+        in
         (refl, same.0, same.1)
     one_fault_at LabFile RewFile k l v w p q = absurd (not_both_files k l v w p q)
     one_fault_at RewFile TraFile k l v w p q = absurd (no_tra_fault names.tra p.tra l w p.takes_tra q)
@@ -106,7 +115,8 @@ module _ (pairs : List Pair) where
     one_fault_at RewFile RewFile k l v w p q =
         let same =
         one_rew_fault q.tra.n names.rew k l v w
-        (subst (λ t. IsRewFaulty t.n names.rew (Some pairs) k v) (one_tra names.tra p.tra q.tra p.takes_tra q.takes_tra) p.faulty) q.faulty in
+        (subst (λ t. IsRewFaulty t.n names.rew (Some pairs) k v) (one_tra names.tra p.tra q.tra p.takes_tra q.takes_tra) p.faulty) q.faulty
+        in
         (refl, same.0, same.1)
 
     fault_of : Which → ℕ → FileWhat → ModelFault

@@ -94,7 +94,8 @@ module _ (pairs : List Pair) (left : List ℕ) (u v : Option (List ℕ)) (names 
   one_reading : (p : Reads u) (q : Reads v) → SameFormula left p.label q.label p.formula q.formula
   one_reading p q =
       let model = one_model pairs names q.model p.model in
-      one_formula left p.model.lab.names u v p.label q.label p.formula q.formula (distinct_names p.model.tra.n names.lab p.model.lab p.model.takes_lab) p.takes
+      one_formula left p.model.lab.names u v p.label q.label p.formula q.formula
+      (distinct_names p.model.tra.n names.lab p.model.lab p.model.takes_lab) p.takes
       (subst (λ l. TakesFormula l.names (Some left) v q.label q.formula) model.lab q.takes)
 
   same_answer : (p : Reads u) (q : Reads v) → answer_to u p ≡ answer_to v q
@@ -116,7 +117,8 @@ module _ (pairs : List Pair) (left : List ℕ) (u v : Option (List ℕ)) (names 
       ∙ ap (λ l. formula_text (name_at q.model.lab.names l) p.formula) one.label
       ∙ ap (formula_text (name_at q.model.lab.names q.label)) one.formula
 
-  of_answer : (now : Option (List ℕ)) (f : List ℕ) (k : Option ℕ) (xs : List StateAnswer) → IsAnswered names (Some pairs) (Some left) now f k xs → Reads now
+  of_answer : (now : Option (List ℕ)) (f : List ℕ) (k : Option ℕ) (xs : List StateAnswer)
+      → IsAnswered names (Some pairs) (Some left) now f k xs → Reads now
   of_answer now f k xs p = record { model = p.model; label = p.answers.label; formula = p.answers.formula; takes = p.answers.takes }
 
   of_refusal : (now : Option (List ℕ)) (r : Refusal) → IsRefused names (Some pairs) (Some left) now r → Reads now
@@ -133,17 +135,20 @@ module _ (pairs : List Pair) (left : List ℕ) (u v : Option (List ℕ)) (names 
   fault_not_model : (fault : ModelFault) → IsFileFaulty names (Some pairs) fault → TakesModel names (Some pairs) → ⊥
   fault_not_model fault p model = no_model_fault pairs names model fault.file fault.line fault.what p
 
-  fault_not_part : (fault : ModelFault) (part : Part) → IsFileFaulty names (Some pairs) fault → IsNotBuilt names (Some pairs) (Some left) v part → ⊥
+  fault_not_part : (fault : ModelFault) (part : Part) → IsFileFaulty names (Some pairs) fault
+      → IsNotBuilt names (Some pairs) (Some left) v part → ⊥
   fault_not_part fault Formula p q = fault_not_model fault p q.model
 
   answer_not_part : (f : List ℕ) (k : Option ℕ) (xs : List StateAnswer) (part : Part) → IsAnswered names (Some pairs) (Some left) u f k xs
       → IsNotBuilt names (Some pairs) (Some left) v part → ⊥
   answer_not_part f k xs part p q = reads_not_part part (of_answer u f k xs p) q
 
-  refusal_not_part : (r : Refusal) (part : Part) → IsRefused names (Some pairs) (Some left) u r → IsNotBuilt names (Some pairs) (Some left) v part → ⊥
+  refusal_not_part : (r : Refusal) (part : Part) → IsRefused names (Some pairs) (Some left) u r
+      → IsNotBuilt names (Some pairs) (Some left) v part → ⊥
   refusal_not_part r part p q = reads_not_part part (of_refusal u r p) q
 
-  answer_not_refusal : (f : List ℕ) (k : Option ℕ) (xs : List StateAnswer) (r : Refusal) → IsAnswered names (Some pairs) (Some left) u f k xs
+  answer_not_refusal : (f : List ℕ) (k : Option ℕ) (xs : List StateAnswer) (r : Refusal)
+      → IsAnswered names (Some pairs) (Some left) u f k xs
       → IsRefused names (Some pairs) (Some left) v r → ⊥
   unfolding answer_to of_answer of_refusal
   answer_not_refusal f k xs r p q =
@@ -161,7 +166,8 @@ module _ (pairs : List Pair) (left : List ℕ) (u v : Option (List ℕ)) (names 
 
   one_refusal : (r t : Refusal) → IsRefused names (Some pairs) (Some left) u r → IsRefused names (Some pairs) (Some left) v t → r ≡ t
   unfolding answer_to of_refusal
-  one_refusal r t p q = same_refusal r t (sym p.refuses.is_refusal ∙ same_answer (of_refusal u r p) (of_refusal v t q) ∙ q.refuses.is_refusal)
+  one_refusal r t p q =
+      same_refusal r t (sym p.refuses.is_refusal ∙ same_answer (of_refusal u r p) (of_refusal v t q) ∙ q.refuses.is_refusal)
 
   same_answered : (f g : List ℕ) (k m : Option ℕ) (xs ys : List StateAnswer) → IsAnswered names (Some pairs) (Some left) u f k xs
       → IsAnswered names (Some pairs) (Some left) v g m ys → Answered f k xs ≡ Answered g m ys

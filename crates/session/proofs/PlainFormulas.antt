@@ -11,7 +11,8 @@ use Rattle.session.specs.PlainFormula.{op_text, next_text, until_text, probabili
 use Rattle.session.proofs.PlainWords.{no_equals_first, decimal_before, number_before_unique}
 
 -- a comparison after which no `=` stands is the longest
-no_longer : (op other : Op) (rest after : List ℕ) → get_or rest 0 0 ≢ 61 → op_text op ++ rest ≡ op_text other ++ after → length rest ≤ length after
+no_longer : (op other : Op) (rest after : List ℕ) → get_or rest 0 0 ≢ 61 → op_text op ++ rest ≡ op_text other ++ after
+    → length rest ≤ length after
 no_longer Less Less rest after last e = omega (arith, ap length e)
 no_longer Less AtMost rest after last e = absurd (last (ap (λ z. get_or z 1 0) e))
 no_longer Less More rest after last e = omega (arith, ap length e)
@@ -32,7 +33,8 @@ no_longer AtLeast AtLeast rest after last e = omega (arith, ap length e)
 pub longest : (text : List ℕ) (op : Op) (rest : List ℕ) → get_or rest 0 0 ≢ 61 → text ≡ op_text op ++ rest → IsLongestOp text op rest
 longest text op rest last e = record { front = e; longest = λ other after f. no_longer op other rest after last (sym e ∙ f) }
 
-same_op : (op other : Op) (rest after : List ℕ) → length rest ≡ length after → op_text op ++ rest ≡ op_text other ++ after → (op ≡ other) × (rest ≡ after)
+same_op : (op other : Op) (rest after : List ℕ) → length rest ≡ length after → op_text op ++ rest ≡ op_text other ++ after
+    → (op ≡ other) × (rest ≡ after)
 same_op Less Less rest after l e = (refl, append_cancel_left (codes "<") rest after e)
 same_op Less AtMost rest after l e = absurd (omega (arith, l, ap length e))
 same_op Less More rest after l e = absurd (omega (arith, ap (λ z. get_or z 0 0) e))
@@ -50,14 +52,16 @@ same_op AtLeast AtMost rest after l e = absurd (omega (arith, ap (λ z. get_or z
 same_op AtLeast More rest after l e = absurd (omega (arith, l, ap length e))
 same_op AtLeast AtLeast rest after l e = (refl, append_cancel_left (codes ">=") rest after e)
 
-pub longest_unique : (text : List ℕ) (op other : Op) (rest after : List ℕ) → IsLongestOp text op rest → IsLongestOp text other after → (op ≡ other) × (rest ≡ after)
+pub longest_unique : (text : List ℕ) (op other : Op) (rest after : List ℕ) → IsLongestOp text op rest → IsLongestOp text other after
+    → (op ≡ other) × (rest ≡ after)
 longest_unique text op other rest after a b =
     same_op op other rest after (omega (arith, a.longest other after b.front, b.longest op rest a.front)) (sym a.front ∙ b.front)
 
 -- the line goes on after its front
 pub line_after : (front line bytes rest : List ℕ) → bytes ≡ front ++ rest → IsLine (front ++ line) bytes → IsLine line rest
 line_after front line bytes rest e (inl alone) = inl (append_cancel_left front rest line (sym e ∙ alone))
-line_after front line bytes rest e (inr ended) = inr (append_cancel_left front rest (line ++ 10 ∷ []) (sym e ∙ (ended ∙ append_assoc front line (10 ∷ []))))
+line_after front line bytes rest e (inr ended) =
+    inr (append_cancel_left front rest (line ++ 10 ∷ []) (sym e ∙ (ended ∙ append_assoc front line (10 ∷ []))))
 
 pub line_before : (front line bytes rest : List ℕ) → bytes ≡ front ++ rest → IsLine line rest → IsLine (front ++ line) bytes
 line_before front line bytes rest e (inl alone) = inl (e ∙ ap (λ z. front ++ z) alone)
@@ -76,8 +80,11 @@ pub record HasFront (bytes : List ℕ) (op : Op) (threshold : DecimalNumber) (pa
   pub is_op : IsLongestOp after_brace op after_op
   pub is_threshold : IsWordBefore IsThresholdWord 125 after_op threshold path
 
-pub front_from : (bytes text rest path : List ℕ) (op : Op) (threshold : DecimalNumber) → bytes ≡ codes "P{" ++ text → IsLongestOp text op rest → IsWordBefore IsThresholdWord 125 rest threshold path → HasFront bytes op threshold path
-front_from bytes text rest path op threshold brace is number = record { after_brace = text; after_op = rest; brace = brace; is_op = is; is_threshold = number }
+pub front_from : (bytes text rest path : List ℕ) (op : Op) (threshold : DecimalNumber)
+    → bytes ≡ codes "P{" ++ text → IsLongestOp text op rest → IsWordBefore IsThresholdWord 125 rest threshold path → HasFront bytes op
+    threshold path
+front_from bytes text rest path op threshold brace is number =
+    record { after_brace = text; after_op = rest; brace = brace; is_op = is; is_threshold = number }
 
 -- a line of a formula and its bytes after the front
 pub record HasPath (bytes : List ℕ) (op : Op) (threshold : DecimalNumber) (line : List ℕ) : Type 0 where
@@ -92,17 +99,22 @@ probability_grouped op word line = simp append_assoc
 until_grouped : (name word : List ℕ) → until_text name word ≡ codes "[tt U[0," ++ (word ++ (codes "] " ++ name ++ codes "]"))
 until_grouped name word = simp append_assoc
 
-until_line : (name word path : List ℕ) → IsLine (until_text name word) path → IsLine (codes "[tt U[0," ++ (word ++ (codes "] " ++ name ++ codes "]"))) path
+until_line : (name word path : List ℕ) → IsLine (until_text name word) path
+    → IsLine (codes "[tt U[0," ++ (word ++ (codes "] " ++ name ++ codes "]"))) path
 until_line name word path h = subst (λ z. IsLine z path) (until_grouped name word) h
 
-path_of_line : (bytes word line : List ℕ) (op : Op) (threshold : DecimalNumber) → IsThresholdWord word threshold → IsLine (probability_text op word line) bytes → HasPath bytes op threshold line
+path_of_line : (bytes word line : List ℕ) (op : Op) (threshold : DecimalNumber) → IsThresholdWord word threshold
+    → IsLine (probability_text op word line) bytes → HasPath bytes op threshold line
 path_of_line bytes word line op threshold is_threshold text =
-    let brace = line_rest (codes "P{") (op_text op ++ (word ++ (125 ∷ line))) bytes (subst (λ z. IsLine z bytes) (probability_grouped op word line) text) in
+    let brace =
+    line_rest (codes "P{") (op_text op ++ (word ++ (125 ∷ line))) bytes
+    (subst (λ z. IsLine z bytes) (probability_grouped op word line) text) in
     let comparison = line_rest (op_text op) (word ++ (125 ∷ line)) brace.0 brace.2 in
     let number = line_rest word (125 ∷ line) comparison.0 comparison.2 in
     let close = line_rest (125 ∷ []) line number.0 number.2 in
     let split : comparison.0 ≡ word ++ (125 ∷ close.0) = number.1 ∙ ap (λ z. word ++ z) close.1 in
-    let last : get_or comparison.0 0 0 ≢ 61 = subst (λ z. get_or z 0 0 ≢ 61) (sym split) (no_equals_first word (125 ∷ close.0) threshold is_threshold.decimal.stands) in
+    let last : get_or comparison.0 0 0 ≢ 61 =
+    subst (λ z. get_or z 0 0 ≢ 61) (sym split) (no_equals_first word (125 ∷ close.0) threshold is_threshold.decimal.stands) in
     record {
       path = close.0;
       front = record {
@@ -115,7 +127,8 @@ path_of_line bytes word line op threshold is_threshold text =
       ends = close.2;
     }
 
-line_of_path : (bytes path line : List ℕ) (op : Op) (threshold : DecimalNumber) (front : HasFront bytes op threshold path) → IsLine line path → IsLine (probability_text op front.is_threshold.word line) bytes
+line_of_path : (bytes path line : List ℕ) (op : Op) (threshold : DecimalNumber) (front : HasFront bytes op threshold path)
+    → IsLine line path → IsLine (probability_text op front.is_threshold.word line) bytes
 line_of_path bytes path line op threshold front ends =
     let word = front.is_threshold.word in
     subst (λ z. IsLine z bytes) (sym (probability_grouped op word line))
@@ -125,7 +138,8 @@ line_of_path bytes path line op threshold front ends =
     (line_before (125 ∷ []) line (125 ∷ path) path refl ends))))
 
 -- bytes have one front at most
-pub front_unique : (bytes p q : List ℕ) (op other : Op) (d e : DecimalNumber) → HasFront bytes op d p → HasFront bytes other e q → (op ≡ other) × (d ≡ e) × (p ≡ q)
+pub front_unique : (bytes p q : List ℕ) (op other : Op) (d e : DecimalNumber) → HasFront bytes op d p → HasFront bytes other e q
+    → (op ≡ other) × (d ≡ e) × (p ≡ q)
 front_unique bytes p q op other d e a b =
     let brace : b.after_brace ≡ a.after_brace = append_cancel_left (codes "P{") b.after_brace a.after_brace (sym b.brace ∙ a.brace) in
     let ops : (op ≡ other) × (a.after_op ≡ b.after_op) =
@@ -136,7 +150,8 @@ front_unique bytes p q op other d e a b =
     (ops.0, numbers.0, numbers.1)
 
 -- the front that stands after a brace and a comparison
-pub threshold_after : (bytes text rest path : List ℕ) (op other : Op) (threshold : DecimalNumber) → HasFront bytes op threshold path → bytes ≡ codes "P{" ++ text → IsLongestOp text other rest → IsWordBefore IsThresholdWord 125 rest threshold path
+pub threshold_after : (bytes text rest path : List ℕ) (op other : Op) (threshold : DecimalNumber) → HasFront bytes op threshold path
+    → bytes ≡ codes "P{" ++ text → IsLongestOp text other rest → IsWordBefore IsThresholdWord 125 rest threshold path
 threshold_after bytes text rest path op other threshold front brace is =
     let same : front.after_brace ≡ text = append_cancel_left (codes "P{") front.after_brace text (sym front.brace ∙ brace) in
     let ops = longest_unique text op other front.after_op rest (subst (λ z. IsLongestOp z op front.after_op) same front.is_op) is in
@@ -148,10 +163,12 @@ pub record HasTime (name text : List ℕ) (time : DecimalNumber) : Type 0 where
   pub is_time : IsWordBefore IsDecimalWord 93 text time rest
   pub ends : IsLine (codes " " ++ name ++ codes "]") rest
 
-pub time_of_path : (name path text : List ℕ) (time : DecimalNumber) → path ≡ codes "[tt U[0," ++ text → IsUntilEnd name path time → HasTime name text time
+pub time_of_path : (name path text : List ℕ) (time : DecimalNumber)
+    → path ≡ codes "[tt U[0," ++ text → IsUntilEnd name path time → HasTime name text time
 time_of_path name path text time bracket h =
     let word = h.time_word in
-    let after : IsLine (word ++ (codes "] " ++ name ++ codes "]")) text = line_after (codes "[tt U[0,") (word ++ (codes "] " ++ name ++ codes "]")) path text bracket (until_line name word path h.text) in
+    let after : IsLine (word ++ (codes "] " ++ name ++ codes "]")) text = line_after (codes "[tt U[0,")
+    (word ++ (codes "] " ++ name ++ codes "]")) path text bracket (until_line name word path h.text) in
     let number = line_rest word (codes "] " ++ name ++ codes "]") text after in
     let close = line_rest (93 ∷ []) (codes " " ++ name ++ codes "]") number.0 number.2 in
     record {
@@ -160,10 +177,13 @@ time_of_path name path text time bracket h =
       ends = close.2;
     }
 
-pub time_from : (name text rest after : List ℕ) (time : DecimalNumber) → IsWordBefore IsDecimalWord 93 text time rest → rest ≡ codes " " ++ after → IsLine (name ++ codes "]") after → HasTime name text time
-time_from name text rest after time number blank last = record { rest = rest; is_time = number; ends = line_before (codes " ") (name ++ codes "]") rest after blank last }
+pub time_from : (name text rest after : List ℕ) (time : DecimalNumber) → IsWordBefore IsDecimalWord 93 text time rest
+    → rest ≡ codes " " ++ after → IsLine (name ++ codes "]") after → HasTime name text time
+time_from name text rest after time number blank last =
+    record { rest = rest; is_time = number; ends = line_before (codes " ") (name ++ codes "]") rest after blank last }
 
-pub path_of_time : (name path text : List ℕ) (time : DecimalNumber) → path ≡ codes "[tt U[0," ++ text → HasTime name text time → IsUntilEnd name path time
+pub path_of_time : (name path text : List ℕ) (time : DecimalNumber)
+    → path ≡ codes "[tt U[0," ++ text → HasTime name text time → IsUntilEnd name path time
 path_of_time name path text time bracket h =
     let word = h.is_time.word in
     record {
@@ -177,14 +197,18 @@ path_of_time name path text time bracket h =
     }
 
 -- the time is the number that stands before the first `]`
-pub time_before : (name text rest : List ℕ) (t time : DecimalNumber) → IsWordBefore IsDecimalWord 93 text t rest → HasTime name text time → (t ≡ time) × IsLine (codes " " ++ name ++ codes "]") rest
+pub time_before : (name text rest : List ℕ) (t time : DecimalNumber) → IsWordBefore IsDecimalWord 93 text t rest → HasTime name text time
+    → (t ≡ time) × IsLine (codes " " ++ name ++ codes "]") rest
 time_before name text rest t time is h =
-    let same : (t ≡ time) × (rest ≡ h.rest) = number_before_unique 93 text rest h.rest t time (omega arith) (λ z. omega arith) is h.is_time in
+    let same : (t ≡ time) × (rest ≡ h.rest) =
+    number_before_unique 93 text rest h.rest t time (omega arith) (λ z. omega arith) is h.is_time in
     (same.0, subst (IsLine (codes " " ++ name ++ codes "]")) (sym same.1) h.ends)
 
-pub bracket_of : (name path : List ℕ) (time : DecimalNumber) → IsUntilEnd name path time → (text : List ℕ) × (path ≡ codes "[tt U[0," ++ text)
+pub bracket_of : (name path : List ℕ) (time : DecimalNumber) → IsUntilEnd name path time
+    → (text : List ℕ) × (path ≡ codes "[tt U[0," ++ text)
 bracket_of name path time h =
-    let after = line_rest (codes "[tt U[0,") (h.time_word ++ (codes "] " ++ name ++ codes "]")) path (until_line name h.time_word path h.text) in
+    let after =
+    line_rest (codes "[tt U[0,") (h.time_word ++ (codes "] " ++ name ++ codes "]")) path (until_line name h.time_word path h.text) in
     (after.0, after.1)
 
 time_unique : (name path : List ℕ) (d e : DecimalNumber) → IsUntilEnd name path d → IsUntilEnd name path e → d ≡ e
@@ -201,10 +225,12 @@ not_both name path time next until =
     let second : 88 ≡ 116 = ap (λ z. get_or z 1 0) (sym after.1 ∙ bracket.1) in
     omega (arith, second)
 
-pub path_of_next : (name bytes : List ℕ) (op : Op) (threshold : DecimalNumber) → IsNextFormula name bytes op threshold → HasPath bytes op threshold (next_text name)
+pub path_of_next : (name bytes : List ℕ) (op : Op) (threshold : DecimalNumber) → IsNextFormula name bytes op threshold
+    → HasPath bytes op threshold (next_text name)
 path_of_next name bytes op threshold h = path_of_line bytes h.threshold_word (next_text name) op threshold h.is_threshold h.text
 
-pub next_of_path : (name bytes path : List ℕ) (op : Op) (threshold : DecimalNumber) → HasFront bytes op threshold path → IsLine (next_text name) path → IsNextFormula name bytes op threshold
+pub next_of_path : (name bytes path : List ℕ) (op : Op) (threshold : DecimalNumber) → HasFront bytes op threshold path
+    → IsLine (next_text name) path → IsNextFormula name bytes op threshold
 next_of_path name bytes path op threshold front ends = record {
   threshold_word = front.is_threshold.word;
   is_threshold = front.is_threshold.is_word;
@@ -217,12 +243,14 @@ pub record HasUntilPath (name bytes : List ℕ) (op : Op) (threshold time : Deci
   pub front : HasFront bytes op threshold path
   pub ends : IsUntilEnd name path time
 
-pub path_of_until : (name bytes : List ℕ) (op : Op) (threshold time : DecimalNumber) → IsUntilFormula name bytes op threshold time → HasUntilPath name bytes op threshold time
+pub path_of_until : (name bytes : List ℕ) (op : Op) (threshold time : DecimalNumber) → IsUntilFormula name bytes op threshold time
+    → HasUntilPath name bytes op threshold time
 path_of_until name bytes op threshold time h =
     let p = path_of_line bytes h.threshold_word (until_text name h.time_word) op threshold h.is_threshold h.text in
     record { path = p.path; front = p.front; ends = record { time_word = h.time_word; is_time = h.is_time; text = p.ends } }
 
-pub until_of_path : (name bytes path : List ℕ) (op : Op) (threshold time : DecimalNumber) → HasFront bytes op threshold path → IsUntilEnd name path time → IsUntilFormula name bytes op threshold time
+pub until_of_path : (name bytes path : List ℕ) (op : Op) (threshold time : DecimalNumber) → HasFront bytes op threshold path
+    → IsUntilEnd name path time → IsUntilFormula name bytes op threshold time
 until_of_path name bytes path op threshold time front ends = record {
   threshold_word = front.is_threshold.word;
   time_word = ends.time_word;
@@ -239,11 +267,14 @@ pub record HasSomeFront (bytes : List ℕ) : Type 0 where
   pub front : HasFront bytes op threshold path
 
 pub front_of_formula : (name bytes : List ℕ) (f : PlainFormula) → IsPlainFormula name bytes f → HasSomeFront bytes
-front_of_formula name bytes (Next op threshold) h = let p = path_of_next name bytes op threshold h in record { op = op; threshold = threshold; path = p.path; front = p.front }
-front_of_formula name bytes (Until op threshold time) h = let p = path_of_until name bytes op threshold time h in record { op = op; threshold = threshold; path = p.path; front = p.front }
+front_of_formula name bytes (Next op threshold) h =
+    let p = path_of_next name bytes op threshold h in record { op = op; threshold = threshold; path = p.path; front = p.front }
+front_of_formula name bytes (Until op threshold time) h =
+    let p = path_of_until name bytes op threshold time h in record { op = op; threshold = threshold; path = p.path; front = p.front }
 
 -- bytes whose path is that of neither are no formula
-pub no_formula : (name bytes path : List ℕ) (op : Op) (threshold : DecimalNumber) (f : PlainFormula) → HasFront bytes op threshold path → (IsLine (next_text name) path → ⊥) → ((time : DecimalNumber) → IsUntilEnd name path time → ⊥) → IsPlainFormula name bytes f → ⊥
+pub no_formula : (name bytes path : List ℕ) (op : Op) (threshold : DecimalNumber) (f : PlainFormula) → HasFront bytes op threshold path
+    → (IsLine (next_text name) path → ⊥) → ((time : DecimalNumber) → IsUntilEnd name path time → ⊥) → IsPlainFormula name bytes f → ⊥
 no_formula name bytes path op threshold (Next other d) front no_next no_until h =
     let p = path_of_next name bytes other d h in
     no_next (subst (IsLine (next_text name)) (front_unique bytes p.path path other op d threshold p.front front).2 p.ends)

@@ -24,7 +24,8 @@ digit_bytes : (digits : List ℕ) → AllDigits 10 digits → All IsNumberByte d
 digit_bytes [] h = All-nil IsNumberByte
 digit_bytes (b ∷ bs) h = All-cons IsNumberByte b bs (digit_byte b h.0) (digit_bytes bs h.1)
 
-decimals_bytes : (decimals : Option (List ℕ)) → AllDigits 10 (decimals_of (record { whole = []; decimals = decimals })) → All IsNumberByte (decimals_text decimals)
+decimals_bytes : (decimals : Option (List ℕ)) → AllDigits 10 (decimals_of (record { whole = []; decimals = decimals }))
+    → All IsNumberByte (decimals_text decimals)
 decimals_bytes None h = All-nil IsNumberByte
 decimals_bytes (Some digits) h = All-cons IsNumberByte 46 digits (inl (omega arith, omega arith)) (digit_bytes digits h)
 
@@ -47,13 +48,16 @@ spelling_bytes : (s : Spelling) → IsSpelling s → All IsNumberByte (spelling_
 spelling_bytes s h =
     let m = s.mantissa in
     All-append IsNumberByte (mantissa_text m) (exponent_text s.exponent)
-    (All-append IsNumberByte m.whole (decimals_text m.decimals) (digit_bytes m.whole h.mantissa.whole) (decimals_bytes m.decimals h.mantissa.decimals))
+    (All-append IsNumberByte m.whole (decimals_text m.decimals) (digit_bytes m.whole h.mantissa.whole)
+    (decimals_bytes m.decimals h.mantissa.decimals))
     (exponent_bytes s.exponent h.exponent)
 
 pub word_bytes : (word : List ℕ) (d : DecimalNumber) → StandsFor word d → All IsNumberByte word
 word_bytes word d h = subst (All IsNumberByte) (sym h.spelled.text) (spelling_bytes h.spelling h.spelled.parts)
 
-mantissa_some : (whole : List ℕ) (decimals : Option (List ℕ)) → 0 < length whole + length (decimals_of (record { whole = whole; decimals = decimals })) → 0 < length whole + length (decimals_text decimals)
+mantissa_some : (whole : List ℕ) (decimals : Option (List ℕ))
+    → 0 < length whole + length (decimals_of (record { whole = whole; decimals = decimals }))
+    → 0 < length whole + length (decimals_text decimals)
 mantissa_some whole None h = omega arith
 mantissa_some whole (Some digits) h = omega arith
 
@@ -89,10 +93,12 @@ not_ending ending b past other (inr (inl big)) e = omega arith
 not_ending ending b past other (inr (inr small)) e = other (sym e ∙ small)
 
 pub word_is_free : (ending : ℕ) (word : List ℕ) (d : DecimalNumber) → 69 < ending → ending ≢ 101 → StandsFor word d → IsFreeOf ending word
-word_is_free ending word d past other h = All-weaker IsNumberByte (λ byte. byte ≢ ending) (λ b. not_ending ending b past other) word (word_bytes word d h)
+word_is_free ending word d past other h =
+    All-weaker IsNumberByte (λ byte. byte ≢ ending) (λ b. not_ending ending b past other) word (word_bytes word d h)
 
 -- the first ending of a text stands in one place
-pub split_unique : (ending : ℕ) (a b q r : List ℕ) → IsFreeOf ending a → IsFreeOf ending b → a ++ (ending ∷ q) ≡ b ++ (ending ∷ r) → (a ≡ b) × (q ≡ r)
+pub split_unique : (ending : ℕ) (a b q r : List ℕ) → IsFreeOf ending a → IsFreeOf ending b → a ++ (ending ∷ q) ≡ b ++ (ending ∷ r)
+    → (a ≡ b) × (q ≡ r)
 split_unique ending [] [] q r f g e = (refl, append_cancel_left (ending ∷ []) q r e)
 split_unique ending [] (y ∷ ys) q r f g e =
     let first : ending ≡ y = ap (λ z. get_or z 0 0) e in
@@ -102,27 +108,34 @@ split_unique ending (x ∷ xs) [] q r f g e =
     absurd (All-head (λ byte. byte ≢ ending) x xs f first)
 split_unique ending (x ∷ xs) (y ∷ ys) q r f g e =
     let first : x ≡ y = ap (λ z. get_or z 0 0) e in
-    let others : (xs ≡ ys) × (q ≡ r) = split_unique ending xs ys q r (All-tail (λ byte. byte ≢ ending) x xs f) (All-tail (λ byte. byte ≢ ending) y ys g) (ap (drop 1) e) in
+    let others : (xs ≡ ys) × (q ≡ r) =
+    split_unique ending xs ys q r (All-tail (λ byte. byte ≢ ending) x xs f) (All-tail (λ byte. byte ≢ ending) y ys g) (ap (drop 1) e) in
     (ap (λ z. z ∷ xs) first ∙ ap (λ zs. y ∷ zs) others.0, others.1)
 
 -- a text that is free of the ending has no word before one
 pub no_split : (ending : ℕ) (text word rest : List ℕ) → IsFreeOf ending text → text ≡ word ++ (ending ∷ rest) → ⊥
 no_split ending text word rest free e =
-    let here : get_or text (length word) 0 ≡ ending = ap (λ z. get_or z (length word) 0) e ∙ get_or_at word ending rest 0 (length word) refl in
+    let here : get_or text (length word) 0 ≡ ending =
+    ap (λ z. get_or z (length word) 0) e ∙ get_or_at word ending rest 0 (length word) refl in
     free (length word) 0 (omega (arith, ap length e, length-append word (ending ∷ rest))) here
 
 -- a word before the first ending is the only one
-pub word_before : (ending : ℕ) (text front after rest : List ℕ) (d : DecimalNumber) → 69 < ending → ending ≢ 101 → text ≡ front ++ (ending ∷ after) → IsFreeOf ending front → IsWordBefore IsDecimalWord ending text d rest → IsDecimalWord front d × (after ≡ rest)
+pub word_before : (ending : ℕ) (text front after rest : List ℕ) (d : DecimalNumber) → 69 < ending → ending ≢ 101
+    → text ≡ front ++ (ending ∷ after) → IsFreeOf ending front → IsWordBefore IsDecimalWord ending text d rest
+    → IsDecimalWord front d × (after ≡ rest)
 word_before ending text front after rest d past other split free h =
     let same : (front ≡ h.word) × (after ≡ rest) =
     split_unique ending front h.word after rest free (word_is_free ending h.word d past other h.is_word.stands) (sym split ∙ h.split) in
     (subst (λ w. IsDecimalWord w d) (sym same.0) h.is_word, same.1)
 
-pub decimal_before : (text rest : List ℕ) (d : DecimalNumber) → IsWordBefore IsThresholdWord 125 text d rest → IsWordBefore IsDecimalWord 125 text d rest
+pub decimal_before : (text rest : List ℕ) (d : DecimalNumber) → IsWordBefore IsThresholdWord 125 text d rest
+    → IsWordBefore IsDecimalWord 125 text d rest
 decimal_before text rest d h = record { word = h.word; is_word = h.is_word.decimal; split = h.split }
 
 -- one number's word stands before the ending, and one rest after it
-pub number_before_unique : (ending : ℕ) (text q r : List ℕ) (d e : DecimalNumber) → 69 < ending → ending ≢ 101 → IsWordBefore IsDecimalWord ending text d q → IsWordBefore IsDecimalWord ending text e r → (d ≡ e) × (q ≡ r)
+pub number_before_unique : (ending : ℕ) (text q r : List ℕ) (d e : DecimalNumber) → 69 < ending → ending ≢ 101
+    → IsWordBefore IsDecimalWord ending text d q → IsWordBefore IsDecimalWord ending text e r → (d ≡ e) × (q ≡ r)
 number_before_unique ending text q r d e past other a b =
-    let same : IsDecimalWord a.word e × (q ≡ r) = word_before ending text a.word q r e past other a.split (word_is_free ending a.word d past other a.is_word.stands) b in
+    let same : IsDecimalWord a.word e × (q ≡ r) =
+    word_before ending text a.word q r e past other a.split (word_is_free ending a.word d past other a.is_word.stands) b in
     (one_value a.word d e a.is_word.stands same.0.stands, same.1)

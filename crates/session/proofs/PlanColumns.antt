@@ -71,7 +71,8 @@ module _ (plan : PlanLists) (tables : TableLists) (sound : IsSoundPlan plan) (ar
   }
 
 -- ---- the same of a plan whose fields are read, and whose states are counted by its first upper words
-module _ (plan read : PlanLists) (n : ℕ) (tables : TableLists) (sound : IsSoundPlan plan) (are : AreTablesOf plan tables) (same : read ≡ plan)
+module _ (plan read : PlanLists) (n : ℕ) (tables : TableLists) (sound : IsSoundPlan plan) (are : AreTablesOf plan tables)
+    (same : read ≡ plan)
     (counted : n ≡ length read.start_upper) where
   rows_counted : length plan.frame.rows ≡ n
   rows_counted = omega (arith, counted, ap (λ p. length p.start_upper) same, sound.start_states)

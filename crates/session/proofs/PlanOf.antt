@@ -39,7 +39,8 @@ module _ (chain : Chain) (load : Fraction) (goal : ℕ → Bool) (n last : ℕ) 
 
   abbrev plan : PlanLists
   plan = record {
-    frame = record { rows = rows; sets = record { goal_must = goal_list; goal_may = goal_list; live_must = all_list; live_may = all_list } };
+    frame =
+        record { rows = rows; sets = record { goal_must = goal_list; goal_may = goal_list; live_must = all_list; live_may = all_list } };
     layers = last;
     start_upper = start_list;
     reach = all_list;

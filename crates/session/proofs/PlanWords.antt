@@ -49,7 +49,8 @@ module _ (chain : Chain) (load : Fraction) (goal : ℕ → Bool) (plan : PlanLis
       ∙ ap (λ m. set_words (starts_at_one m (holds_at plan.frame.sets.goal_may) (holds_at plan.reach)) t) is.is_mix
       ∙ ap (λ z. cond z one_word 0) (is.goal_may t (below t l))
 
-  low_word : (k : ℕ) → k ≤ plan.layers → slice_index (layer_at tables.low k) s ≡ low_table (rows_of (uniformised chain)) every_state goal k s
+  low_word : (k : ℕ) → k ≤ plan.layers
+      → slice_index (layer_at tables.low k) s ≡ low_table (rows_of (uniformised chain)) every_state goal k s
   low_word k l =
       (of_plan.low.layer k l).words s here
       ∙ low_of_rows (frame_rows plan.frame.rows) (uniformised chain) is.rows some_rate (holds_at plan.frame.sets.live_must) every_state
@@ -69,15 +70,19 @@ module _ (chain : Chain) (load : Fraction) (goal : ℕ → Bool) (plan : PlanLis
       mix_low_reads plan.layers (slice_index is.weights.low) (slice_index is.weights.high) (λ k. slice_index (layer_at tables.low k) s)
       (low_weight load) (high_weight load) (λ k. low_table (rows_of (uniformised chain)) every_state goal k s)
       is.fits.weights_of.low is.fits.weights_of.high low_word
-      ∙ ap (λ n. mix_low n (low_weight load) (high_weight load) (λ k. low_table (rows_of (uniformised chain)) every_state goal k s)) is.fits.last_layer
+      ∙ ap (λ n. mix_low n (low_weight load) (high_weight load) (λ k. low_table (rows_of (uniformised chain)) every_state goal k s))
+      is.fits.last_layer
 
-  upper_mix : mix_high plan.layers until_bits (slice_index is.weights.low) (slice_index is.weights.high) (λ k. slice_index (layer_at tables.high k) s)
+  upper_mix : mix_high plan.layers until_bits (slice_index is.weights.low) (slice_index is.weights.high)
+      (λ k. slice_index (layer_at tables.high k) s)
       ≡ (until_words (rows_of (uniformised chain)) load until_bits (known_exactly every_state goal) s).upper
   upper_mix =
-      mix_high_reads plan.layers until_bits (slice_index is.weights.low) (slice_index is.weights.high) (λ k. slice_index (layer_at tables.high k) s)
+      mix_high_reads plan.layers until_bits (slice_index is.weights.low) (slice_index is.weights.high)
+      (λ k. slice_index (layer_at tables.high k) s)
       (low_weight load) (high_weight load) (λ k. high_table (rows_of (uniformised chain)) every_state goal (set_words goal) k s)
       is.fits.weights_of.low is.fits.weights_of.high high_word
-      ∙ ap (λ n. mix_high n until_bits (low_weight load) (high_weight load) (λ k. high_table (rows_of (uniformised chain)) every_state goal (set_words goal) k s)) is.fits.last_layer
+      ∙ ap (λ n. mix_high n until_bits (low_weight load) (high_weight load)
+      (λ k. high_table (rows_of (uniformised chain)) every_state goal (set_words goal) k s)) is.fits.last_layer
 
   same_weights : (weights other : WeightLists) (m n : ℕ) → Poisson weights m ≡ Poisson other n → weights ≡ other
   same_weights weights other m n e = cc
@@ -85,15 +90,18 @@ module _ (chain : Chain) (load : Fraction) (goal : ℕ → Bool) (plan : PlanLis
   same_bits : (weights other : WeightLists) (m n : ℕ) → Poisson weights m ≡ Poisson other n → m ≡ n
   same_bits weights other m n e = cc
 
-  pub words_are : (weights : WeightLists) (bits : ℕ) → plan.mix ≡ Poisson weights bits → (b : Bracket) → b ≡ column_mixes plan.layers bits weights tables s
+  pub words_are : (weights : WeightLists) (bits : ℕ) → plan.mix ≡ Poisson weights bits → (b : Bracket)
+      → b ≡ column_mixes plan.layers bits weights tables s
       → settle (goal s) true (record { lower = b.lower; upper = b.upper }) ≡ state_words chain load goal s
   words_are weights bits mix b e =
       let weights_are : weights ≡ is.weights = same_weights weights is.weights bits until_bits (sym mix ∙ is.is_mix) in
       let bits_are : bits ≡ until_bits = same_bits weights is.weights bits until_bits (sym mix ∙ is.is_mix) in
       let mixed : b ≡ column_mixes plan.layers until_bits is.weights tables s =
-      e ∙ ap (λ w. column_mixes plan.layers bits w tables s) weights_are ∙ ap (λ n. column_mixes plan.layers n is.weights tables s) bits_are in
+      e ∙ ap (λ w. column_mixes plan.layers bits w tables s) weights_are ∙ ap (λ n. column_mixes plan.layers n is.weights tables s)
+      bits_are in
       ap (λ l. settle (goal s) true (record { lower = l; upper = b.upper })) (ap (λ m. m.lower) mixed ∙ lower_mix)
-      ∙ ap (λ u. settle (goal s) true (record { lower = (until_words (rows_of (uniformised chain)) load until_bits (known_exactly every_state goal) s).lower; upper = u }))
+      ∙ ap (λ u. settle (goal s) true
+      (record { lower = (until_words (rows_of (uniformised chain)) load until_bits (known_exactly every_state goal) s).lower; upper = u }))
       (ap (λ m. m.upper) mixed ∙ upper_mix)
 
 -- ---- the answers from the plan's goal and its mixes are those of the until
@@ -112,13 +120,15 @@ module _ (chain : Chain) (load : Fraction) (goal : ℕ → Bool) (plan : PlanLis
   same_words s inside =
       ap (λ g. settle g true (mix_at mixes s)) (is.goal_must s inside)
       ∙ words_are chain load goal plan are.tables is are.of_plan s inside are.weights are.bits are.is_mix _
-      (mix_read plan.layers are.bits (length plan.frame.rows) are.weights are.tables mixes are.are s _ (omega (arith, inside, rows_counted)))
+      (mix_read plan.layers are.bits (length plan.frame.rows) are.weights are.tables mixes are.are s _
+      (omega (arith, inside, rows_counted)))
 
   pub settled_answers_are : (by : Comparison) (q : Fraction) → settled_answers goals mixes by q ≡ until_answers chain load goal by q
   settled_answers_are by q =
       let some_answer = words_answer by (state_words chain load goal 0) q in
       ap (first_answers (settled_words goals mixes) by q) goals_counted
-      ∙ fill_by_all (λ s. words_answer by (state_words chain load goal s) q) (first_answers (settled_words goals mixes) by q chain.states) chain.states
+      ∙ fill_by_all (λ s. words_answer by (state_words chain load goal s) q) (first_answers (settled_words goals mixes) by q chain.states)
+      chain.states
       some_answer (length-map-range_with_len (λ s. words_answer by (settled_words goals mixes s) q) 0 chain.states)
       (λ s inside.
       get_or-map-range_with_len (λ t. words_answer by (settled_words goals mixes t) q) 0 chain.states s s some_answer inside (omega arith)

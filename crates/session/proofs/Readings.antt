@@ -23,19 +23,22 @@ pub takes_tra : (files : Option (List Pair)) (name : List ℕ) (tra : TraLists) 
 takes_tra files name tra read is h = subst (IsTraReading name files) is h
 
 -- the file of labels is read over the states of the file before it
-pub takes_lab : (files mid : Option (List Pair)) (name : List ℕ) (n : ℕ) (tra : TraLists) (lab : LabLists) (read : Result LabLists FileFault)
+pub takes_lab : (files mid : Option (List Pair)) (name : List ℕ) (n : ℕ) (tra : TraLists) (lab : LabLists)
+    (read : Result LabLists FileFault)
     → mid ≡ files → n ≡ tra.n → read ≡ Ok lab → IsLabReading n name mid read → TakesLab tra.n name files lab
 takes_lab files mid name n tra lab read same count is h =
     subst (λ k. TakesLab k name files lab) count (subst (λ f. TakesLab n name f lab) same (subst (IsLabReading n name mid) is h))
 
 -- and so is the file of rewards
-pub takes_rew : (files mid : Option (List Pair)) (name : Option (List ℕ)) (n : ℕ) (tra : TraLists) (rew : Option RewLists) (read : Result (Option RewLists) FileFault)
+pub takes_rew : (files mid : Option (List Pair)) (name : Option (List ℕ)) (n : ℕ) (tra : TraLists) (rew : Option RewLists)
+    (read : Result (Option RewLists) FileFault)
     → mid ≡ files → n ≡ tra.n → read ≡ Ok rew → IsRewReading n name mid read → TakesRew tra.n name files rew
 takes_rew files mid name n tra rew read same count is h =
     subst (λ k. TakesRew k name files rew) count (subst (λ f. TakesRew n name f rew) same (subst (IsRewReading n name mid) is h))
 
 -- there are as many rewards as states
-pub rew_length : (n : ℕ) (name : Option (List ℕ)) (files : Option (List Pair)) (rew : RewLists) → TakesRew n name files (Some rew) → length rew.rewards ≡ n
+pub rew_length : (n : ℕ) (name : Option (List ℕ)) (files : Option (List Pair)) (rew : RewLists) → TakesRew n name files (Some rew)
+    → length rew.rewards ≡ n
 rew_length n None files rew p = absurd p
 rew_length n (Some name) files rew p = ap length p.is_so.rewards ∙ length-map-range_with_len _ 0 n
 
@@ -51,7 +54,8 @@ module _ (names : FileNames) (files : Option (List Pair)) where
       → told.what ≡ fault.what → read ≡ Err fault → IsTraReading names.tra files read → IsFileFaulty names files told
   tra_fault fault told read p q r is h = as_model_fault TraFile fault told p q r (subst (IsTraReading names.tra files) is h)
 
-  pub lab_fault : (mid : Option (List Pair)) (n : ℕ) (tra : TraLists) (fault : FileFault) (told : ModelFault) (read : Result LabLists FileFault)
+  pub lab_fault : (mid : Option (List Pair)) (n : ℕ) (tra : TraLists) (fault : FileFault) (told : ModelFault)
+      (read : Result LabLists FileFault)
       → told.file ≡ LabFile → told.line ≡ fault.line → told.what ≡ fault.what → TakesTra names.tra files tra
       → mid ≡ files → n ≡ tra.n → read ≡ Err fault → IsLabReading n names.lab mid read → IsFileFaulty names files told
   lab_fault mid n tra fault told read p q r takes same count is h =
@@ -64,8 +68,10 @@ module _ (names : FileNames) (files : Option (List Pair)) where
             (subst (λ f. IsLabReading n names.lab f (Err fault)) same (subst (IsLabReading n names.lab mid) is h));
       })
 
-  pub rew_fault : (mid : Option (List Pair)) (n : ℕ) (tra : TraLists) (lab : LabLists) (fault : FileFault) (told : ModelFault) (read : Result (Option RewLists) FileFault)
-      → told.file ≡ RewFile → told.line ≡ fault.line → told.what ≡ fault.what → TakesTra names.tra files tra → TakesLab tra.n names.lab files lab
+  pub rew_fault : (mid : Option (List Pair)) (n : ℕ) (tra : TraLists) (lab : LabLists) (fault : FileFault) (told : ModelFault)
+      (read : Result (Option RewLists) FileFault)
+      → told.file ≡ RewFile → told.line ≡ fault.line → told.what ≡ fault.what → TakesTra names.tra files tra
+      → TakesLab tra.n names.lab files lab
       → mid ≡ files → n ≡ tra.n → read ≡ Err fault → IsRewReading n names.rew mid read → IsFileFaulty names files told
   rew_fault mid n tra lab fault told read p q r takes labels same count is h =
       as_model_fault RewFile fault told p q r
@@ -109,7 +115,8 @@ module _ (old : List (List ℕ)) where
   pub asks_front : (xs ys new : List (List ℕ)) → AsksFor xs old new → AsksFor (xs ++ ys) old new
   asks_front xs ys new q = record {
     count = min q.count (length xs);
-    appended = q.appended ∙ ap (λ l. old ++ l) (sym (take_min q.count xs) ∙ sym (take-append-le (min q.count (length xs)) xs ys (omega arith)));
+    appended =
+        q.appended ∙ ap (λ l. old ++ l) (sym (take_min q.count xs) ∙ sym (take-append-le (min q.count (length xs)) xs ys (omega arith)));
   }
 
 -- after a fault, names that were asked for are a front of those of the command

@@ -23,12 +23,14 @@ module _ (unit num den : ℕ) (positive : 0 < den) (within : num ≤ den) where
       omega (arith, below)
 
 -- the answers at the first states and the next one
-pub answers_more : (chain : Chain) (goal : ℕ → Bool) (comparison : Comparison) (q : Fraction) (s num den : ℕ) (old : List StateAnswer) (answer : StateAnswer)
+pub answers_more : (chain : Chain) (goal : ℕ → Bool) (comparison : Comparison) (q : Fraction) (s num den : ℕ) (old : List StateAnswer)
+    (answer : StateAnswer)
     → old ≡ first_answers chain goal comparison q s → num ≡ rate_into chain goal s → den ≡ max 1 (exit_rate chain s)
     → answer ≡ next_answer comparison (fraction num den) q
     → old ++ answer ∷ [] ≡ first_answers chain goal comparison q (s + 1)
 answers_more chain goal comparison q s num den old answer so_far into out is =
     ap (λ l. l ++ answer ∷ []) so_far
     ∙ ap (λ a. first_answers chain goal comparison q s ++ a ∷ [])
-    (is ∙ ap (λ n. next_answer comparison (fraction n den) q) into ∙ ap (λ d. next_answer comparison (fraction (rate_into chain goal s) d) q) out)
+    (is ∙ ap (λ n. next_answer comparison (fraction n den) q) into ∙ ap
+    (λ d. next_answer comparison (fraction (rate_into chain goal s) d) q) out)
     ∙ sym (map-range_with_len_more (λ t. next_answer comparison (next_probability chain goal t) q) 0 s s (omega arith))

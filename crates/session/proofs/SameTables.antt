@@ -45,7 +45,8 @@ cases_same g g' l l' one a b e f h =
 
 -- ---- two tables of rows of n states, and sets that have the same states
 module _ (n : ℕ) (num num' : ℕ → ℕ → ℕ) (den den' : ℕ → ℕ) (live live' goal goal' : ℕ → Bool)
-    (fractions : (s t : ℕ) → s < n → t < n → num s t * den' s ≡ num' s t * den s) (positive : (s : ℕ) → s < n → 0 < den s) (positive' : (s : ℕ) → s < n → 0 < den' s)
+    (fractions : (s t : ℕ) → s < n → t < n → num s t * den' s ≡ num' s t * den s) (positive : (s : ℕ) → s < n → 0 < den s)
+    (positive' : (s : ℕ) → s < n → 0 < den' s)
     (same_live : (s : ℕ) → s < n → live s ≡ live' s) (same_goal : (s : ℕ) → s < n → goal s ≡ goal' s) where
   abbrev r : Rows
   r = record { states = n; num = num; den = den }
@@ -58,7 +59,8 @@ module _ (n : ℕ) (num num' : ℕ → ℕ → ℕ) (den den' : ℕ → ℕ) (li
   low_same (suc k) s l =
       cases_same (goal s) (goal' s) (live s) (live' s) _ _ _ (same_goal s l) (same_live s l)
       (floor_same _ (den s) _ (den' s) (positive s l) (positive' s l)
-      (sums_same n (den s) (den' s) (num s) (num' s) (low_table r live goal k) (low_table q live' goal' k) (λ t m. fractions s t l m) (λ t m. low_same k t m)))
+      (sums_same n (den s) (den' s) (num s) (num' s) (low_table r live goal k) (low_table q live' goal' k) (λ t m. fractions s t l m)
+      (λ t m. low_same k t m)))
 
   high_same : (start start' : ℕ → ℕ) → ((s : ℕ) → s < n → start s ≡ start' s)
       → (k s : ℕ) → s < n → high_table r live goal start k s ≡ high_table q live' goal' start' k s
@@ -66,7 +68,8 @@ module _ (n : ℕ) (num num' : ℕ → ℕ → ℕ) (den den' : ℕ → ℕ) (li
   high_same start start' e (suc k) s l =
       cases_same (goal s) (goal' s) (live s) (live' s) _ _ _ (same_goal s l) (same_live s l)
       (ceiling_same _ (den s) _ (den' s) (positive s l) (positive' s l)
-      (sums_same n (den s) (den' s) (num s) (num' s) (high_table r live goal start k) (high_table q live' goal' start' k) (λ t m. fractions s t l m)
+      (sums_same n (den s) (den' s) (num s) (num' s) (high_table r live goal start k) (high_table q live' goal' start' k)
+      (λ t m. fractions s t l m)
       (λ t m. high_same start start' e k t m)))
 
 -- ---- rows that stand for weights have the tables of the weights
@@ -77,11 +80,13 @@ module _ (r : Rows) (j : Jumps) (is : IsRowsOf r j) (some : 0 < j.total) (live l
 
   pub low_of_rows : (k s : ℕ) → s < r.states → low_table r live goal k s ≡ low_table (rows_of j) live' goal' k s
   low_of_rows k s l =
-      low_same r.states r.num j.weight r.den (λ t. j.total) live live' goal goal' fractions_of is.positive (λ t m. some) same_live same_goal k s l
+      low_same r.states r.num j.weight r.den (λ t. j.total) live live' goal goal' fractions_of is.positive (λ t m. some) same_live
+      same_goal k s l
       ∙ ap (λ n. low_table (record { states = n; num = j.weight; den = λ t. j.total }) live' goal' k s) is.same_states
 
   pub high_of_rows : (start start' : ℕ → ℕ) → ((s : ℕ) → s < r.states → start s ≡ start' s)
       → (k s : ℕ) → s < r.states → high_table r live goal start k s ≡ high_table (rows_of j) live' goal' start' k s
   high_of_rows start start' e k s l =
-      high_same r.states r.num j.weight r.den (λ t. j.total) live live' goal goal' fractions_of is.positive (λ t m. some) same_live same_goal start start' e k s l
+      high_same r.states r.num j.weight r.den (λ t. j.total) live live' goal goal' fractions_of is.positive (λ t m. some) same_live
+      same_goal start start' e k s l
       ∙ ap (λ n. high_table (record { states = n; num = j.weight; den = λ t. j.total }) live' goal' start' k s) is.same_states

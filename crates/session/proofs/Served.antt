@@ -58,7 +58,8 @@ told_names (Some pairs) P Q f p = f p
 same_chain : (n : ℕ) (xs ys : List Rate) → IsPermutation xs ys → chain_of n xs ≡ chain_of n ys
 same_chain n xs ys h = search (rules, sum_by-IsPermutation)
 
-module _ (names : FileNames) (files : Option (List Pair)) (before now : Option (List ℕ)) (model : ModelLists) (is : IsModelOf names files model) where
+module _ (names : FileNames) (files : Option (List Pair)) (before now : Option (List ℕ)) (model : ModelLists)
+    (is : IsModelOf names files model) where
   chain_is : model_chain model ≡ chain_of is.takes.tra.n is.takes.tra.rates
   chain_is = ap (λ n. chain_of n model.rates) is.built.n ∙ sym (same_chain is.takes.tra.n is.takes.tra.rates model.rates is.built.rates)
 
@@ -66,9 +67,27 @@ module _ (names : FileNames) (files : Option (List Pair)) (before now : Option (
   labelled_is : labelled_chain model ≡ model_of is.takes
   labelled_is =
       ap (λ c. record { chain = c; rate_decimals = model.scale; names = model.names; has = has_label model.marks }) chain_is
-      ∙ ap (λ d. record { chain = chain_of is.takes.tra.n is.takes.tra.rates; rate_decimals = d; names = model.names; has = has_label model.marks }) is.built.scale
-      ∙ ap (λ n. record { chain = chain_of is.takes.tra.n is.takes.tra.rates; rate_decimals = is.takes.tra.scale; names = n; has = has_label model.marks }) is.built.names
-      ∙ ap (λ m. record { chain = chain_of is.takes.tra.n is.takes.tra.rates; rate_decimals = is.takes.tra.scale; names = is.takes.lab.names; has = has_label m }) is.built.marks
+      ∙ ap (λ d. record {
+        chain = chain_of is.takes.tra.n is.takes.tra.rates;
+        rate_decimals = d;
+        names = model.names;
+        has = has_label
+            model.marks;
+      }) is.built.scale
+      ∙ ap (λ n. record {
+        chain = chain_of is.takes.tra.n is.takes.tra.rates;
+        rate_decimals = is.takes.tra.scale;
+        names = n;
+        has
+            = has_label model.marks;
+      }) is.built.names
+      ∙ ap (λ m. record {
+        chain = chain_of is.takes.tra.n is.takes.tra.rates;
+        rate_decimals = is.takes.tra.scale;
+        names
+            = is.takes.lab.names;
+        has = has_label m;
+      }) is.built.marks
 
   from_formula : (outcome : Outcome) → IsFormulaOutcome model before now outcome → IsOutcomeOf (Some names) files before now outcome
   from_formula Usage h = absurd h
@@ -86,13 +105,15 @@ module _ (names : FileNames) (files : Option (List Pair)) (before now : Option (
   all_names (Refused refusal) h = refl
   all_names (Answered formula horizon states) h = refl
 
-  asks_of_formula : (r : Result Reply Stop) (old new : List (List ℕ)) → IfOk r (λ reply. IsFormulaOutcome model before now (outcome_of reply))
+  asks_of_formula : (r : Result Reply Stop) (old new : List (List ℕ))
+      → IfOk r (λ reply. IsFormulaOutcome model before now (outcome_of reply))
       → new ≡ old ++ names_of (Some names) → AsksForReply (Some names) r old new
   asks_of_formula (Ok reply) old new h e = e ∙ ap (λ l. old ++ l) (sym (all_names (outcome_of reply) h))
   asks_of_formula (Err stop) old new h e = asks_whole old (names_of (Some names)) new e
 
   -- the same for the reply and its command
-  pub reply_outcome : (command : Option FileNames) (r : Result Reply Stop) → command ≡ Some names → IfOk r (λ reply. IsFormulaOutcome model before now (outcome_of reply))
+  pub reply_outcome : (command : Option FileNames) (r : Result Reply Stop) → command ≡ Some names
+      → IfOk r (λ reply. IsFormulaOutcome model before now (outcome_of reply))
       → IfOk r (λ reply. IsOutcomeOf command files before now (outcome_of reply))
   reply_outcome command (Ok reply) e h =
       subst (λ o. IsOutcomeOf o files before now (outcome_of reply)) (sym e) (from_formula (outcome_of reply) h)
@@ -122,7 +143,8 @@ from_answer model before now named (Ok reply) takes h = answered (outcome_of rep
 
 -- ---- an answer is exact
 -- what a list of answers, one a state, has at a state
-found_at : (f : ℕ → StateAnswer) (n s : ℕ) (states : List StateAnswer) → states ≡ map f (range_with_len 0 n) → s < n → slice_get states s ≡ Some (f s)
+found_at : (f : ℕ → StateAnswer) (n s : ℕ) (states : List StateAnswer) → states ≡ map f (range_with_len 0 n) → s < n
+    → slice_get states s ≡ Some (f s)
 found_at f n s states e l =
     let long : s < length states = omega (arith, ap length e, length-map-range_with_len f 0 n) in
     slice_get-get_or states s (f s) long
@@ -133,10 +155,12 @@ next_exact_at : (chain : Chain) (goal : ℕ → Bool) (comparison : Comparison) 
     → IsSomeAnd (slice_get states s) (IsExactNext comparison (next_probability chain goal s) q)
 next_exact_at chain goal comparison q s states e l =
     let p = next_probability chain goal s in
-    subst (λ o. IsSomeAnd o (IsExactNext comparison p q)) (sym (found_at (λ t. next_answer comparison (next_probability chain goal t) q) chain.states s states e l))
+    subst (λ o. IsSomeAnd o (IsExactNext comparison p q))
+    (sym (found_at (λ t. next_answer comparison (next_probability chain goal t) q) chain.states s states e l))
     (next_answer_exact comparison p q (omega arith))
 
-until_exact_at : (chain : Chain) (load : Fraction) (goal : ℕ → Bool) (comparison : Comparison) (q : Fraction) (s : ℕ) (states : List StateAnswer)
+until_exact_at : (chain : Chain) (load : Fraction) (goal : ℕ → Bool) (comparison : Comparison) (q : Fraction) (s : ℕ)
+    (states : List StateAnswer)
     → 0 < load.den → 0 < q.den → horizon load until_bits ≤ MOST_LAYERS
     → states ≡ until_answers chain load goal comparison q → s < chain.states
     → IsSomeAnd (slice_get states s) (IsExactUntil comparison (horizon load until_bits) until_bits (until_of chain load goal s) q)
@@ -168,7 +192,8 @@ few_layers : (last states : ℕ) → plan_refusal last states ≡ None → last 
 few_layers last states e = by_test (nat_lt MOST_LAYERS last) refl e
   where
     by_test : (long : Bool) → nat_lt MOST_LAYERS last ≡ long
-        → (if long then Some TooLong else (if nat_lt MOST_WORDS (suc last * states) then Some TooLarge else None)) ≡ None → last ≤ MOST_LAYERS
+        → (if long then Some TooLong else (if nat_lt MOST_WORDS (suc last * states) then Some TooLarge else None)) ≡ None
+        → last ≤ MOST_LAYERS
     by_test true is e = absurd (some_not_none TooLong e)
     by_test false is e = omega (arith, ltb-false MOST_LAYERS last is)
 
@@ -176,7 +201,8 @@ power_of_ten : (k : ℕ) → 0 < 10 ^ k
 power_of_ten k = omega (arith, power_le 10 0 k (omega arith) (omega arith))
 
 module _ (over : LabelledChain) (label : ℕ) (horizon : Option ℕ) (states : List StateAnswer) where
-  horizon_printed : (formula : PlainFormula) → formula_answer over label formula ≡ Answers horizon states → horizon ≡ formula_horizon over formula
+  horizon_printed : (formula : PlainFormula) → formula_answer over label formula ≡ Answers horizon states
+      → horizon ≡ formula_horizon over formula
   horizon_printed formula e =
       let due = is_due (formula_refusal over formula) _ horizon states e in
       sym (same_horizon (formula_horizon over formula) horizon (formula_states over label formula) states due.is)
@@ -187,7 +213,8 @@ module _ (over : LabelledChain) (label : ℕ) (horizon : Option ℕ) (states : L
       sym (same_answers None horizon _ states e) in
       record {
         each_state = ap length is ∙ length-map-range_with_len _ 0 over.chain.states;
-        exact = λ s l. next_exact_at over.chain (over.has label) (comparison_of op) (decimal_fraction threshold.c threshold.x) s states is l;
+        exact =
+            λ s l. next_exact_at over.chain (over.has label) (comparison_of op) (decimal_fraction threshold.c threshold.x) s states is l;
       }
   answers_exact (Until op threshold time) e =
       let load = until_load over time in
@@ -201,8 +228,10 @@ module _ (over : LabelledChain) (label : ℕ) (horizon : Option ℕ) (states : L
             (power_of_ten (over.rate_decimals + time.x)) (power_of_ten threshold.x) (few_layers _ over.chain.states due.unrefused) is l;
       }
 
-pub answered_exactly : (command : Option FileNames) (files : Option (List Pair)) (left_before left_now before now : Option (List ℕ)) (outcome : Outcome)
-    → outcome_status outcome ≡ status.Done → IsOutcomeOf command files left_before left_now outcome → Appends before now (outcome_text outcome)
+pub answered_exactly : (command : Option FileNames) (files : Option (List Pair)) (left_before left_now before now : Option (List ℕ))
+    (outcome : Outcome)
+    → outcome_status outcome ≡ status.Done → IsOutcomeOf command files left_before left_now outcome
+    → Appends before now (outcome_text outcome)
     → IsSomeAnd command (λ names. AnswersExactly names files left_before left_now before now)
 answered_exactly command files left_before left_now before now Usage done h printed = cc
 answered_exactly command files left_before left_now before now (Faulty fault) done h printed = cc
@@ -241,25 +270,30 @@ appended : (written text : List ℕ) (now : Option (List ℕ)) → Appends (Some
 appended written text None p = absurd p
 appended written text (Some xs) p = ap Some p
 
-pub told : (command : Option FileNames) (files : Option (List Pair)) (left_before left_now before now : Option (List ℕ)) (flushed : Option ℕ) (s : Status) (mine outcome : Outcome)
+pub told : (command : Option FileNames) (files : Option (List Pair)) (left_before left_now before now : Option (List ℕ))
+    (flushed : Option ℕ) (s : Status) (mine outcome : Outcome)
     (pairs : List Pair) (left written : List ℕ) (other : Option (List ℕ))
     → s ≡ outcome_status mine → IsOutcomeOf command files left_before left_now mine → Says before now flushed (outcome_text mine)
     → files ≡ Some pairs → left_before ≡ Some left → before ≡ Some written → IsOutcomeOf command (Some pairs) (Some left) other outcome
     → IsLostOr s ((s ≡ outcome_status outcome) × (now ≡ Some (written ++ outcome_text outcome)))
 told command files left_before left_now before now flushed s mine outcome pairs left written other is h says e f w theirs =
-    let h1 : IsOutcomeOf command (Some pairs) left_before left_now mine = subst (λ o. IsOutcomeOf command o left_before left_now mine) e h in
-    let h2 : IsOutcomeOf command (Some pairs) (Some left) left_now mine = subst (λ o. IsOutcomeOf command (Some pairs) o left_now mine) f h1 in
+    let h1 : IsOutcomeOf command (Some pairs) left_before left_now mine =
+    subst (λ o. IsOutcomeOf command o left_before left_now mine) e h in
+    let h2 : IsOutcomeOf command (Some pairs) (Some left) left_now mine =
+    subst (λ o. IsOutcomeOf command (Some pairs) o left_now mine) f h1 in
     let same : mine ≡ outcome = one_outcome pairs left left_now other command mine outcome h2 theirs in
     lost_or s _ (
       (is ∙ ap outcome_status same),
-      appended written (outcome_text outcome) now (subst (λ o. Appends o now (outcome_text outcome)) w (subst (λ o. Appends before now (outcome_text o)) same says.written)),
+      appended written (outcome_text outcome) now
+          (subst (λ o. Appends o now (outcome_text outcome)) w (subst (λ o. Appends before now (outcome_text o)) same says.written)),
     )
 
 -- ---- the names that were asked for
 all_asked : (command : Option FileNames) (old new : List (List ℕ)) → new ≡ old ++ names_of command → AsksFor (names_of command) old new
 all_asked command old new e = asks_whole old (names_of command) new e
 
-front_asked : (command : Option FileNames) (outcome : Outcome) (old new : List (List ℕ)) → new ≡ old ++ names_before outcome command → AsksFor (names_of command) old new
+front_asked : (command : Option FileNames) (outcome : Outcome) (old new : List (List ℕ)) → new ≡ old ++ names_before outcome command
+    → AsksFor (names_of command) old new
 front_asked command Usage old new e = record { count = 0; appended = e }
 front_asked command (Faulty fault) old new e = through fault.file e
   where
@@ -275,4 +309,5 @@ front_asked command (Answered formula horizon states) old new e = all_asked comm
 pub lost_asks : (files : Option (List Pair)) (command : Option FileNames) (reply : Reply) (old new : List (List ℕ))
     → IfSome files (λ _. AsksForReply command (Ok reply) old new) → IfSome files (λ _. AsksFor (names_of command) old new)
 lost_asks files command reply old new h =
-    told_names files (new ≡ old ++ names_before (outcome_of reply) command) (AsksFor (names_of command) old new) (front_asked command (outcome_of reply) old new) h
+    told_names files (new ≡ old ++ names_before (outcome_of reply) command) (AsksFor (names_of command) old new)
+    (front_asked command (outcome_of reply) old new) h

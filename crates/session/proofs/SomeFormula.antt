@@ -108,7 +108,9 @@ threshold_or_not text =
           is = record { word = n.is.word; is_word = record { decimal = n.is.is_word; at_most_one = small }; split = n.is.split };
         })
         | inl great ↦ inr (λ m.
-            let same = number_before_unique 125 text n.rest m.rest n.number m.number (omega arith) (λ z. omega arith) n.is (decimal_before text m.rest m.number m.is) in
+            let same =
+            number_before_unique 125 text n.rest m.rest n.number m.number (omega arith) (λ z. omega arith) n.is
+            (decimal_before text m.rest m.number m.is) in
             let small : n.number.c ≤ 10 ^ n.number.x = subst (λ z. z.c ≤ 10 ^ z.x) (sym same.0) m.is.is_word.at_most_one in
             omega (arith, great, small))
       ]
@@ -137,7 +139,8 @@ no_equals : (rest : List ℕ) → (¬ RestAfter (codes "=") rest) → get_or res
 no_equals [] none e = omega (arith, e)
 no_equals (x ∷ xs) none e = none (xs, ap (λ z. z ∷ xs) e)
 
-not_op : (text : List ℕ) → (¬ RestAfter (codes "<") text) → (¬ RestAfter (codes ">") text) → (op : Op) (rest : List ℕ) → text ≢ op_text op ++ rest
+not_op : (text : List ℕ) → (¬ RestAfter (codes "<") text) → (¬ RestAfter (codes ">") text) → (op : Op) (rest : List ℕ)
+    → text ≢ op_text op ++ rest
 not_op text no_less no_more Less rest e = no_less (rest, e)
 not_op text no_less no_more AtMost rest e = no_less (61 ∷ rest, e)
 not_op text no_less no_more More rest e = no_more (rest, e)
@@ -184,7 +187,8 @@ until_or_not name path =
             let t = time_of_path name path bracket.0 time bracket.1 h in
             none (record { number = time; rest = t.rest; is = t.is_time }))
         | inl n ↦ elim (line_or_not (codes " " ++ name ++ codes "]") n.rest) [
-          | inl ends ↦ inl (n.number, path_of_time name path bracket.0 n.number bracket.1 (record { rest = n.rest; is_time = n.is; ends = ends }))
+          | inl ends ↦
+              inl (n.number, path_of_time name path bracket.0 n.number bracket.1 (record { rest = n.rest; is_time = n.is; ends = ends }))
           | inr none ↦ inr (λ (time, h).
               none (time_before name bracket.0 n.rest n.number time n.is (time_of_path name path bracket.0 time bracket.1 h)).1)
         ]
@@ -196,7 +200,8 @@ abbrev SomeFormula : List ℕ → List ℕ → Type 0
 SomeFormula name bytes = (f : PlainFormula) × IsPlainFormula name bytes f
 
 module _ (name bytes : List ℕ) where
-  after_front : (op : Op) (threshold : DecimalNumber) (path : List ℕ) → HasFront bytes op threshold path → SomeFormula name bytes ⊎ (¬ SomeFormula name bytes)
+  after_front : (op : Op) (threshold : DecimalNumber) (path : List ℕ) → HasFront bytes op threshold path
+      → SomeFormula name bytes ⊎ (¬ SomeFormula name bytes)
   after_front op threshold path front =
       elim (line_or_not (next_text name) path) [
         | inl ends ↦ inl (Next op threshold, next_of_path name bytes path op threshold front ends)
@@ -213,7 +218,8 @@ module _ (name bytes : List ℕ) where
         | inl brace ↦ elim (op_or_not brace.0) [
           | inr none ↦ inr (λ (f, h).
               let p = front_of_formula name bytes f h in
-              let same : p.front.after_brace ≡ brace.0 = append_cancel_left (codes "P{") p.front.after_brace brace.0 (sym p.front.brace ∙ brace.1) in
+              let same : p.front.after_brace ≡ brace.0 =
+              append_cancel_left (codes "P{") p.front.after_brace brace.0 (sym p.front.brace ∙ brace.1) in
               none p.op p.front.after_op (sym same ∙ p.front.is_op.front))
           | inl o ↦ elim (threshold_or_not o.rest) [
             | inr none ↦ inr (λ (f, h).

@@ -104,7 +104,8 @@ module _ (pairs : List Pair) (left : List ℕ) (names : FileNames) where
         ]
 
   -- ---- the files
-  module _ (tra : TraLists) (takes_tra : TakesTra names.tra (Some pairs) tra) (lab : LabLists) (takes_lab : TakesLab tra.n names.lab (Some pairs) lab) where
+  module _ (tra : TraLists) (takes_tra : TakesTra names.tra (Some pairs) tra) (lab : LabLists)
+      (takes_lab : TakesLab tra.n names.lab (Some pairs) lab) where
     rewards : (rew : Option (List ℕ)) → names.rew ≡ rew → IfSome rew (λ name. IsSome (file_named name pairs)) → Found
     rewards None e there =
         formulas (record {
@@ -117,7 +118,8 @@ module _ (pairs : List Pair) (left : List ℕ) (names : FileNames) where
         })
     rewards (Some name) e there =
         let bytes = bytes_of (file_named name pairs) there in
-        elim (file.file_reading pairs name (λ text a. RewSays text tra.n a) (λ text. RewFaultAt text tra.n) (λ text. rew_reading text tra.n) bytes.0 bytes.1) [
+        elim (file.file_reading pairs name (λ text a. RewSays text tra.n a) (λ text. RewFaultAt text tra.n)
+        (λ text. rew_reading text tra.n) bytes.0 bytes.1) [
           | inl r ↦ formulas (record {
             tra = tra;
             lab = lab;
@@ -141,9 +143,11 @@ module _ (pairs : List Pair) (left : List ℕ) (names : FileNames) where
   labels : (tra : TraLists) → TakesTra names.tra (Some pairs) tra → AreThere names pairs → Found
   labels tra takes there =
       let bytes = bytes_of (file_named names.lab pairs) there.lab in
-      elim (file.file_reading pairs names.lab (λ text a. LabSays text tra.n a) (λ text. LabFaultAt text tra.n) (λ text. lab_reading text tra.n) bytes.0 bytes.1) [
+      elim (file.file_reading pairs names.lab (λ text a. LabSays text tra.n a) (λ text. LabFaultAt text tra.n)
+      (λ text. lab_reading text tra.n) bytes.0 bytes.1) [
         | inl l ↦ rewards tra takes l.0 l.1 names.rew refl there.rew
-        | inr f ↦ faulty (record { file = which.LabFile; line = f.0; what = f.1 }) (record { tra = tra; takes_tra = takes; faulty = f.2 }, refl)
+        | inr f ↦
+            faulty (record { file = which.LabFile; line = f.0; what = f.1 }) (record { tra = tra; takes_tra = takes; faulty = f.2 }, refl)
       ]
 
   chain : AreThere names pairs → Found

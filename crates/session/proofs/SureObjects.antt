@@ -11,7 +11,8 @@ use Rattle.session.specs.declared.status.Status.{Status}
 use Rattle.session.specs.declared.status.Status.TheVariants.{Done, Refused, Usage, Model, NotBuilt, Outside, Memory}
 
 -- none of the names that are there is missing
-none_missing : (pairs : List Pair) (tra lab : List ℕ) (rew : Option (List ℕ)) (count : ℕ) → IsSome (file_named tra pairs) → IsSome (file_named lab pairs)
+none_missing : (pairs : List Pair) (tra lab : List ℕ) (rew : Option (List ℕ)) (count : ℕ) → IsSome (file_named tra pairs)
+    → IsSome (file_named lab pairs)
     → IfSome rew (λ name. IsSome (file_named name pairs)) → missing_count pairs (take count (tra ∷ lab ∷ rew_name rew)) ≡ 0
 none_missing pairs tra lab rew zero t l r = refl
 none_missing pairs tra lab rew (suc zero) t l r = grind (arith, common_steps)
@@ -30,11 +31,13 @@ command_missing (Some names) pairs count there = none_missing pairs names.tra na
 abbrev faults : List Pair → List (List ℕ) → ℕ
 faults pairs asked = min (missing_count pairs asked) (2 ^ 64 - 1)
 
-module _ (command : Option FileNames) (pairs pairs' : List Pair) (old new : List (List ℕ)) (there : IfSome command (λ names. AreThere names pairs))
+module _ (command : Option FileNames) (pairs pairs' : List Pair) (old new : List (List ℕ))
+    (there : IfSome command (λ names. AreThere names pairs))
     (same : pairs' ≡ pairs) (fresh : old ≡ []) where
   no_rise : AsksFor (names_of command) old new → Rose (faults pairs old) (faults pairs' new) → ⊥
   no_rise asks rose =
-      let empty : new ≡ take asks.count (names_of command) = subst (λ l. new ≡ l ++ take asks.count (names_of command)) fresh asks.appended in
+      let empty : new ≡ take asks.count (names_of command) =
+      subst (λ l. new ≡ l ++ take asks.count (names_of command)) fresh asks.appended in
       let before : missing_count pairs old ≡ 0 = subst (λ l. missing_count pairs l ≡ 0) (sym fresh) refl in
       let now : missing_count pairs' new ≡ 0 =
       subst (λ l. missing_count pairs' l ≡ 0) (sym empty) (subst (λ p. missing_count p (take asks.count (names_of command)) ≡ 0) (sym same)

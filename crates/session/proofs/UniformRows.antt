@@ -77,23 +77,27 @@ row_nil : (s share : ℕ) → row_entries s share [] ≡ share_entry s share
 unfolding row_entries
 row_nil s share = refl
 
-row_cons : (s share : ℕ) (r : Rate) (rs : List Rate) → row_entries s share (r ∷ rs) ≡ transition_entries s share r ++ row_entries s (share_after s share r) rs
+row_cons : (s share : ℕ) (r : Rate) (rs : List Rate)
+    → row_entries s share (r ∷ rs) ≡ transition_entries s share r ++ row_entries s (share_after s share r) rs
 unfolding row_entries
 row_cons s share r rs = refl
 
-row_before : (s share : ℕ) (r : Rate) (rs : List Rate) → r.to < s → row_entries s share (r ∷ rs) ≡ entry r.to (r.rate + 0) ∷ row_entries s share rs
+row_before : (s share : ℕ) (r : Rate) (rs : List Rate) → r.to < s
+    → row_entries s share (r ∷ rs) ≡ entry r.to (r.rate + 0) ∷ row_entries s share rs
 row_before s share r rs l =
     row_cons s share r rs
     ∙ ap (λ es. es ++ row_entries s (share_after s share r) rs) (before_loop s share r l)
     ∙ ap (λ k. entry r.to (r.rate + 0) ∷ row_entries s k rs) (after_before s share r l)
 
-row_loop : (s share : ℕ) (r : Rate) (rs : List Rate) → s ≡ r.to → row_entries s share (r ∷ rs) ≡ entry r.to (r.rate + share) ∷ row_entries s 0 rs
+row_loop : (s share : ℕ) (r : Rate) (rs : List Rate) → s ≡ r.to
+    → row_entries s share (r ∷ rs) ≡ entry r.to (r.rate + share) ∷ row_entries s 0 rs
 row_loop s share r rs e =
     row_cons s share r rs
     ∙ ap (λ es. es ++ row_entries s (share_after s share r) rs) (at_loop s share r e)
     ∙ ap (λ k. entry r.to (r.rate + share) ∷ row_entries s k rs) (after_past s share r (omega arith))
 
-row_past : (s share : ℕ) (r : Rate) (rs : List Rate) → s < r.to → row_entries s share (r ∷ rs) ≡ (share_entry s share ++ entry r.to (r.rate + 0) ∷ []) ++ row_entries s 0 rs
+row_past : (s share : ℕ) (r : Rate) (rs : List Rate) → s < r.to
+    → row_entries s share (r ∷ rs) ≡ (share_entry s share ++ entry r.to (r.rate + 0) ∷ []) ++ row_entries s 0 rs
 row_past s share r rs l =
     row_cons s share r rs
     ∙ ap (λ es. es ++ row_entries s (share_after s share r) rs) (past_loop s share r l)
@@ -124,10 +128,14 @@ module _ (set : ℕ → Bool) where
   number_share s zero = sym (cond_zero (set s))
   number_share s (suc k) = ap number_into (share_some s k) ∙ number_one s (suc k)
 
-  number_step : (s share : ℕ) (r : Rate) → number_into (transition_entries s share r) + cond (set s) (share_after s share r) 0 ≡ cond (set r.to) r.rate 0 + cond (set s) share 0
+  number_step : (s share : ℕ) (r : Rate)
+      → number_into (transition_entries s share r) + cond (set s) (share_after s share r) 0 ≡ cond (set r.to) r.rate 0 + cond (set s) share
+      0
   number_step s share r =
       elim (dec_le (suc r.to) s) [
-        | yes l ↦ rw (before_loop s share r l, after_before s share r l) (omega (arith, number_one r.to (r.rate + 0), cond_sum (set r.to) r.rate 0, cond_zero (set r.to)))
+        | yes l ↦
+            rw (before_loop s share r l, after_before s share r l)
+            (omega (arith, number_one r.to (r.rate + 0), cond_sum (set r.to) r.rate 0, cond_zero (set r.to)))
         | no g ↦ elim (dec_le (suc s) r.to) [
           | yes l ↦
               rw (past_loop s share r l, after_past s share r (omega arith))
@@ -171,9 +179,11 @@ module _ (P : Entry → Type 0) where
   all_share s zero h = All-nil P
   all_share s (suc k) h = rw (share_some s k) (All-cons P (entry s (suc k)) [] (h (omega arith)) (All-nil P))
 
-  all_share_before : (s share : ℕ) (e : Entry) (es : List Entry) → ((num : ℕ) → 0 < num → 0 < share → P (entry s num)) → P e → All P es → All P ((share_entry s share ++ e ∷ []) ++ es)
+  all_share_before : (s share : ℕ) (e : Entry) (es : List Entry) → ((num : ℕ) → 0 < num → 0 < share → P (entry s num)) → P e → All P es
+      → All P ((share_entry s share ++ e ∷ []) ++ es)
   all_share_before s zero e es own p h = All-cons P e es p h
-  all_share_before s (suc k) e es own p h = rw (share_some s k) (All-cons P (entry s (suc k)) (e ∷ es) (own (suc k) (omega arith) (omega arith)) (All-cons P e es p h))
+  all_share_before s (suc k) e es own p h =
+      rw (share_some s k) (All-cons P (entry s (suc k)) (e ∷ es) (own (suc k) (omega arith) (omega arith)) (All-cons P e es p h))
 
   -- what holds of the entries of transitions and of the loop holds of a row's
   pub all_row : (s share : ℕ) (rs : List Rate) → ((num : ℕ) → 0 < num → 0 < share → P (entry s num))
@@ -185,12 +195,19 @@ module _ (P : Entry → Type 0) where
       let later = All-tail (λ (x : Rate). (num : ℕ) → 0 < num → P (entry x.to num)) r rs h in
       let rates = All-tail (λ (x : Rate). 1 ≤ x.rate) r rs some in
       elim (dec_le (suc r.to) s) [
-        | yes l ↦ subst (All P) (sym (row_before s share r rs l)) (All-cons P (entry r.to (r.rate + 0)) (row_entries s share rs) (here (r.rate + 0) (omega arith)) (all_row s share rs own later rates))
+        | yes l ↦
+            subst (All P) (sym (row_before s share r rs l))
+            (All-cons P (entry r.to (r.rate + 0)) (row_entries s share rs) (here (r.rate + 0) (omega arith))
+            (all_row s share rs own later rates))
         | no g ↦
             let rest : All P (row_entries s 0 rs) = all_row s 0 rs (λ num l m. absurd (omega arith)) later rates in
             elim (dec_le (suc s) r.to) [
-              | yes l ↦ subst (All P) (sym (row_past s share r rs l)) (all_share_before s share (entry r.to (r.rate + 0)) (row_entries s 0 rs) own (here (r.rate + 0) (omega arith)) rest)
-              | no m ↦ subst (All P) (sym (row_loop s share r rs (omega arith))) (All-cons P (entry r.to (r.rate + share)) (row_entries s 0 rs) (here (r.rate + share) (omega arith)) rest)
+              | yes l ↦
+                  subst (All P) (sym (row_past s share r rs l))
+                  (all_share_before s share (entry r.to (r.rate + 0)) (row_entries s 0 rs) own (here (r.rate + 0) (omega arith)) rest)
+              | no m ↦
+                  subst (All P) (sym (row_loop s share r rs (omega arith)))
+                  (All-cons P (entry r.to (r.rate + share)) (row_entries s 0 rs) (here (r.rate + share) (omega arith)) rest)
             ]
       ]
 
@@ -203,16 +220,19 @@ ascending_share : (s share : ℕ) → AllPairs IsBefore (share_entry s share)
 ascending_share s zero = λ i j d l b. absurd (omega arith)
 ascending_share s (suc k) = rw (share_some s k) (λ i j d l b. absurd (omega arith))
 
-ascending_share_before : (s share num : ℕ) (r : Rate) (es : List Entry) → s < r.to → All (IsBefore (entry r.to num)) es → AllPairs IsBefore es
+ascending_share_before : (s share num : ℕ) (r : Rate) (es : List Entry) → s < r.to → All (IsBefore (entry r.to num)) es
+    → AllPairs IsBefore es
     → AllPairs IsBefore ((share_entry s share ++ entry r.to num ∷ []) ++ es)
 ascending_share_before s zero num r es l first h = AllPairs-cons IsBefore (entry r.to num) es first h
 ascending_share_before s (suc k) num r es l first h =
     rw (share_some s k)
     (AllPairs-cons IsBefore (entry s (suc k)) (entry r.to num ∷ es)
-    (All-cons (IsBefore (entry s (suc k))) (entry r.to num) es l (λ i d m. let later : r.to < (get_or es i d).to = first i d m in omega arith))
+    (All-cons (IsBefore (entry s (suc k))) (entry r.to num) es l
+    (λ i d m. let later : r.to < (get_or es i d).to = first i d m in omega arith))
     (AllPairs-cons IsBefore (entry r.to num) es first h))
 
-pub ascending_row : (s share : ℕ) (rs : List Rate) → AllPairs (λ x y. x.to < y.to) rs → All (λ r. 1 ≤ r.rate) rs → AllPairs IsBefore (row_entries s share rs)
+pub ascending_row : (s share : ℕ) (rs : List Rate) → AllPairs (λ x y. x.to < y.to) rs → All (λ r. 1 ≤ r.rate) rs
+    → AllPairs IsBefore (row_entries s share rs)
 ascending_row s share [] h some = subst (AllPairs IsBefore) (sym (row_nil s share)) (ascending_share s share)
 ascending_row s share (r ∷ rs) h some =
     let rates = All-tail (λ (x : Rate). 1 ≤ x.rate) r rs some in
@@ -222,23 +242,27 @@ ascending_row s share (r ∷ rs) h some =
       | yes l ↦
           subst (AllPairs IsBefore) (sym (row_before s share r rs l))
           (AllPairs-cons IsBefore (entry r.to (r.rate + 0)) (row_entries s share rs)
-          (all_row (IsBefore (entry r.to (r.rate + 0))) s share rs (λ num p q. l) (λ i d m num p. first i d m) rates) (ascending_row s share rs later rates))
+          (all_row (IsBefore (entry r.to (r.rate + 0))) s share rs (λ num p q. l) (λ i d m num p. first i d m) rates)
+          (ascending_row s share rs later rates))
       | no g ↦
           let bound : (n : ℕ) → All (IsBefore (entry r.to n)) (row_entries s 0 rs) =
           λ n. all_row (IsBefore (entry r.to n)) s 0 rs (λ num p q. absurd (omega arith)) (λ i d m num p. first i d m) rates in
           elim (dec_le (suc s) r.to) [
             | yes l ↦
                 subst (AllPairs IsBefore) (sym (row_past s share r rs l))
-                (ascending_share_before s share (r.rate + 0) r (row_entries s 0 rs) l (bound (r.rate + 0)) (ascending_row s 0 rs later rates))
+                (ascending_share_before s share (r.rate + 0) r (row_entries s 0 rs) l (bound (r.rate + 0))
+                (ascending_row s 0 rs later rates))
             | no m ↦
                 subst (AllPairs IsBefore) (sym (row_loop s share r rs (omega arith)))
-                (AllPairs-cons IsBefore (entry r.to (r.rate + share)) (row_entries s 0 rs) (bound (r.rate + share)) (ascending_row s 0 rs later rates))
+                (AllPairs-cons IsBefore (entry r.to (r.rate + share)) (row_entries s 0 rs) (bound (r.rate + share))
+                (ascending_row s 0 rs later rates))
           ]
     ]
 
 -- one transition more of a row
 pub one_transition : (s share share' i : ℕ) (rs : List Rate) (d : Rate) (old new all : List Entry) → i < length rs
-    → old ++ row_entries s share (drop i rs) ≡ all → new ≡ old ++ transition_entries s share (get_or rs i d) → share' ≡ share_after s share (get_or rs i d)
+    → old ++ row_entries s share (drop i rs) ≡ all → new ≡ old ++ transition_entries s share (get_or rs i d)
+    → share' ≡ share_after s share (get_or rs i d)
     → new ++ row_entries s share' (drop (i + 1) rs) ≡ all
 one_transition s share share' i rs d old new all l before grown left =
     let r : Rate = get_or rs i d in
@@ -252,9 +276,11 @@ one_transition s share share' i rs d old new all l before grown left =
     ∙ before
 
 -- all transitions of a row, and the share that is left
-pub whole_row : (s share i : ℕ) (rs : List Rate) (old new all : List Entry) → length rs ≤ i → old ++ row_entries s share (drop i rs) ≡ all → new ≡ old ++ share_entry s share → new ≡ all
+pub whole_row : (s share i : ℕ) (rs : List Rate) (old new all : List Entry) → length rs ≤ i → old ++ row_entries s share (drop i rs) ≡ all
+    → new ≡ old ++ share_entry s share → new ≡ all
 whole_row s share i rs old new all l before grown =
-    grown ∙ ap (λ es. old ++ es) (sym (row_nil s share)) ∙ ap (λ part. old ++ row_entries s share part) (sym (drop_of_length-le rs l)) ∙ before
+    grown ∙ ap (λ es. old ++ es) (sym (row_nil s share)) ∙ ap (λ part. old ++ row_entries s share part) (sym (drop_of_length-le rs l))
+    ∙ before
 
 -- the share after a transition, by the test of its target
 pub kept_share : (s share share' to : ℕ) → to < s → share' ≡ share → share' ≡ cond (nat_lt to s) share 0
@@ -272,7 +298,8 @@ its_own : (b : Bool) (x : ℕ) → b ≡ true → cond b x 0 ≡ x
 its_own true x e = refl
 its_own false x e = cc
 
-module _ (model : ModelLists) (s uniform : ℕ) (rs : List Rate) (es : List Entry) (state : s < model.n) (value : uniform ≡ uniform_rate (model_chain model))
+module _ (model : ModelLists) (s uniform : ℕ) (rs : List Rate) (es : List Entry) (state : s < model.n)
+    (value : uniform ≡ uniform_rate (model_chain model))
     (rates_into : (set : ℕ → Bool) → sum_into set rs ≡ rate_into (model_chain model) set s)
     (are : es ≡ row_entries s (uniform - exit_rate (model_chain model) s) rs) where
   abbrev share : ℕ
@@ -289,10 +316,12 @@ module _ (model : ModelLists) (s uniform : ℕ) (rs : List Rate) (es : List Entr
       let own : rate_into (model_chain model) (λ u. eqb u t) s ≡ rate t =
       sum_below-one model.n t (λ u. cond (eqb u t) (rate u) 0) l (λ u other. one_state (eqb u t) (rate u) (ne_eqb u t other))
       ∙ its_own (eqb t t) (rate t) (eq-eqb t t refl) in
-      into (λ u. eqb u t) ∙ (ap (λ x. x + cond (eqb s t) share 0) own ∙ ap (λ b. rate t + cond (eqb s t) (b - exit_rate (model_chain model) s) 0) value)
+      into (λ u. eqb u t) ∙ (ap (λ x. x + cond (eqb s t) share 0) own ∙ ap
+      (λ b. rate t + cond (eqb s t) (b - exit_rate (model_chain model) s) 0) value)
 
   -- the row is sound
-  pub row_sound : uniform < 2 ^ 63 → IsStrictlyIncreasing (map (λ r. r.to) rs) → All (IsTransition model.n) rs → IsSoundRow model.n (record { den = uniform; entries = es })
+  pub row_sound : uniform < 2 ^ 63 → IsStrictlyIncreasing (map (λ r. r.to) rs) → All (IsTransition model.n) rs
+      → IsSoundRow model.n (record { den = uniform; entries = es })
   row_sound fits ascending transitions =
       let some : All (λ (r : Rate). 1 ≤ r.rate) rs = λ i d l. (transitions i d l).positive in
       let whole : sum_by (λ e. e.num) es ≡ exit_rate (model_chain model) s + share = into (λ u. true) in
@@ -317,11 +346,13 @@ no_row = record { den = 0; entries = [] }
 
 -- one row more
 pub one_row : (n s : ℕ) (weight : ℕ → ℕ → ℕ) (rows : List RowLists) (row : RowLists) → length rows ≡ s
-    → ((i t : ℕ) → i < s → t < n → number_to (row_at rows i).entries t ≡ weight i t) → ((t : ℕ) → t < n → number_to row.entries t ≡ weight s t)
+    → ((i t : ℕ) → i < s → t < n → number_to (row_at rows i).entries t ≡ weight i t)
+    → ((t : ℕ) → t < n → number_to row.entries t ≡ weight s t)
     → (i t : ℕ) → i < s + 1 → t < n → number_to (row_at (rows ++ row ∷ []) i).entries t ≡ weight i t
 one_row n s weight rows row long before here i t l m =
     elim (dec_le (suc i) s) [
-      | yes inside ↦ ap (λ (r : RowLists). number_to r.entries t) (get_or_append_left rows (row ∷ []) no_row i (omega arith)) ∙ before i t inside m
+      | yes inside ↦
+          ap (λ (r : RowLists). number_to r.entries t) (get_or_append_left rows (row ∷ []) no_row i (omega arith)) ∙ before i t inside m
       | no past ↦
           let last : i ≡ length rows = omega arith in
           let same : i ≡ s = omega arith in
@@ -332,7 +363,8 @@ one_row n s weight rows row long before here i t l m =
     ]
 
 -- rows with the numbers and the divisor of the uniformised chain stand for it
-pub rows_stand : (model : ModelLists) (uniform : ℕ) (rows : List RowLists) → length rows ≡ model.n → uniform ≡ uniform_rate (model_chain model)
+pub rows_stand : (model : ModelLists) (uniform : ℕ) (rows : List RowLists) → length rows ≡ model.n
+    → uniform ≡ uniform_rate (model_chain model)
     → All (IsSoundRow model.n) rows → All (λ row. row.den ≡ uniform) rows
     → ((s t : ℕ) → s < model.n → t < model.n → number_to (row_at rows s).entries t ≡ (uniformised (model_chain model)).weight s t)
     → StandFor rows (uniformised (model_chain model))
@@ -341,7 +373,8 @@ rows_stand model uniform rows long value sound divisors numbers =
     let den : (s : ℕ) → s < length rows → (row_at rows s).den ≡ jumps.total = λ s l. divisors s no_row l ∙ value in
     record {
       same_states = long;
-      same_fractions = λ s t l m. ap (λ z. jumps.weight s t * z) (den s l) ∙ ap (λ z. z * jumps.total) (sym (numbers s t (omega arith) (omega arith)));
+      same_fractions =
+          λ s t l m. ap (λ z. jumps.weight s t * z) (den s l) ∙ ap (λ z. z * jumps.total) (sym (numbers s t (omega arith) (omega arith)));
       whole = λ s l.
           ap (λ k. sum_below k (number_to (row_at rows s).entries)) long
           ∙ sum_below-same model.n (number_to (row_at rows s).entries) (jumps.weight s) (λ t m. numbers s t (omega arith) m)

@@ -32,20 +32,24 @@ pub state_words_contain : (chain : Chain) (load : Fraction) (goal : ℕ → Bool
 state_words_contain chain load goal s positive inside =
     let j : Jumps = uniformised chain in
     settled_contains (rows_of j) j load until_bits (known_exactly every_state goal) every_state goal every_state s
-    (weights_rows j (uniformised_stochastic chain) (some_rate chain)) (uniformised_stochastic chain) (some_rate chain) positive (omega arith) inside
+    (weights_rows j (uniformised_stochastic chain) (some_rate chain)) (uniformised_stochastic chain) (some_rate chain) positive
+    (omega arith) inside
     (record { live_has = λ t h. h; live_fits = λ t h. h; goal_has = λ t h. h; goal_fits = λ t h. h })
     (record { goal_in = λ t l h. refl; back = λ t u l m h p r. refl })
 
-pub state_words_narrow : (chain : Chain) (load : Fraction) (goal : ℕ → Bool) (s : ℕ) → 0 < load.den → horizon load until_bits ≤ MOST_LAYERS → s < chain.states
+pub state_words_narrow : (chain : Chain) (load : Fraction) (goal : ℕ → Bool) (s : ℕ) → 0 < load.den → horizon load until_bits ≤ MOST_LAYERS
+    → s < chain.states
     → (state_words chain load goal s).upper ≤ (state_words chain load goal s).lower + greatest_width (horizon load until_bits) until_bits
 state_words_narrow chain load goal s positive few inside =
     let j : Jumps = uniformised chain in
-    settled_bracket_narrow (rows_of j) j load until_bits every_state goal every_state s (weights_rows j (uniformised_stochastic chain) (some_rate chain))
+    settled_bracket_narrow (rows_of j) j load until_bits every_state goal every_state s
+    (weights_rows j (uniformised_stochastic chain) (some_rate chain))
     (uniformised_stochastic chain) (some_rate chain) positive (omega arith) few inside
 
 pub until_exact : (by : Comparison) (chain : Chain) (load : Fraction) (goal : ℕ → Bool) (q : Fraction) (s : ℕ) → 0 < load.den → 0 < q.den
     → horizon load until_bits ≤ MOST_LAYERS → s < chain.states
-    → IsExactUntil by (horizon load until_bits) until_bits (until_of chain load goal s) q (words_answer by (state_words chain load goal s) q)
+    → IsExactUntil by (horizon load until_bits) until_bits (until_of chain load goal s) q
+    (words_answer by (state_words chain load goal s) q)
 until_exact by chain load goal q s positive threshold few inside =
     let j : Jumps = uniformised chain in
     words_exact by (horizon load until_bits) until_bits (until_of chain load goal s) q (state_words chain load goal s) threshold
@@ -54,7 +58,8 @@ until_exact by chain load goal q s positive threshold few inside =
     (state_words_contain chain load goal s positive inside) (state_words_narrow chain load goal s positive few inside)
 
 -- ---- one answer more
-pub answers_more : (words : ℕ → WordBracket) (by : Comparison) (q : Fraction) (s : ℕ) (answers : List StateAnswer) (answer : StateAnswer) (w : WordBracket)
+pub answers_more : (words : ℕ → WordBracket) (by : Comparison) (q : Fraction) (s : ℕ) (answers : List StateAnswer) (answer : StateAnswer)
+    (w : WordBracket)
     → answers ≡ first_answers words by q s → w ≡ words s → answer ≡ words_answer by w q
     → answers ++ answer ∷ [] ≡ first_answers words by q (s + 1)
 answers_more words by q s answers answer w so_far is here =

@@ -171,7 +171,8 @@ second_state = record {
   among = (0, omega arith, refl);
 }
 
-labels_given : (s j : ℕ) → s < 2 → j < 1 → IsTrue (has_label lab.marks j s) ↔ GivesLabel (label_line ∷ []) (s + 1) (slice_index_or lab.names j [])
+labels_given : (s j : ℕ) → s < 2 → j < 1
+    → IsTrue (has_label lab.marks j s) ↔ GivesLabel (label_line ∷ []) (s + 1) (slice_index_or lab.names j [])
 labels_given zero zero l m = (λ no. absurd (false≢true no), λ gives. absurd (other_state gives))
 labels_given (suc zero) zero l m = (λ _. second_state, λ _. refl)
 labels_given (suc (suc s)) zero l m = absurd (omega arith)

@@ -25,7 +25,8 @@ is_file_name word = bytes_eq word (codes "-") || not (slice_index word 0 == 45)
 -- `ctmc` and the names of two files
 abbrev pub ctmc_names : List ℕ → List ℕ → List ℕ → Option FileNames
 ctmc_names kind tra lab =
-    if bytes_eq kind (codes "ctmc") && is_file_name tra && is_file_name lab then Some (record { tra = tra; lab = lab; rew = None }) else None
+    if bytes_eq kind (codes "ctmc") && is_file_name tra && is_file_name lab
+    then Some (record { tra = tra; lab = lab; rew = None }) else None
 
 -- `cmrm` and the names of three files
 abbrev pub cmrm_names : List ℕ → List ℕ → List ℕ → List ℕ → Option FileNames

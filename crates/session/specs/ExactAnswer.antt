@@ -29,8 +29,8 @@ pub record IsExactNext (by : Comparison) (p q : Fraction) (answer : StateAnswer)
   pub satisfied : (answer.verdict ≡ Satisfied) ↔ MeetsThreshold by p q
   pub refuted : (answer.verdict ≡ Refuted) ↔ (¬ MeetsThreshold by p q)
 
--- two words of `2^-62` lie behind the answer: every average x from the horizon on lies between them, they are no wider apart than the horizon
--- makes them, the printed numbers are these words rounded down and up, and the verdict is exactly what they show of the threshold q
+-- two words of `2^-62` lie behind the answer: every average x from the horizon on lies between them, they are no wider apart than the
+-- horizon makes them, the printed numbers are these words rounded down and up, and the verdict is exactly what they show of the threshold q
 pub record HasWords (by : Comparison) (last bits : ℕ) (x : ℕ → Fraction) (q : Fraction) (answer : StateAnswer) : Type 0 where
   pub words : WordBracket
   pub contains : ContainsFrom (word_bracket words) last x

@@ -24,7 +24,8 @@ unless_refused None answer = answer
 
 -- the answers at the states
 abbrev pub formula_states : LabelledChain → ℕ → PlainFormula → List StateAnswer
-formula_states over label (Next op threshold) = next_answers over.chain (over.has label) (comparison_of op) (decimal_fraction threshold.c threshold.x)
+formula_states over label (Next op threshold) =
+    next_answers over.chain (over.has label) (comparison_of op) (decimal_fraction threshold.c threshold.x)
 formula_states over label (Until op threshold time) =
     until_answers over.chain (until_load over time) (over.has label) (comparison_of op) (decimal_fraction threshold.c threshold.x)
 

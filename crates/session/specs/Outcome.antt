@@ -143,7 +143,8 @@ pub record TakesTooMuch (before now : Option (List ℕ)) : Type 0 where
   pub long : length bytes ≡ FORMULAS_LIMIT + 1
 
 -- the formula was read over the chain's labels, and these are its text, its horizon and the answers at the states
-pub record AnswersFormula (over : LabelledChain) (before now : Option (List ℕ)) (text : List ℕ) (horizon : Option ℕ) (states : List StateAnswer) : Type 0 where
+pub record AnswersFormula (over : LabelledChain) (before now : Option (List ℕ)) (text : List ℕ) (horizon : Option ℕ)
+    (states : List StateAnswer) : Type 0 where
   pub label : ℕ
   pub formula : PlainFormula
   pub takes : TakesFormula over.names before now label formula
@@ -191,14 +192,17 @@ IsOutcomeOf command files before now Usage = IsNone command × Keeps before now
 IsOutcomeOf command files before now (Faulty fault) = IsSomeAnd command (λ names. IsFileFaulty names files fault × Keeps before now)
 IsOutcomeOf command files before now (NotBuilt part) = IsSomeAnd command (λ names. IsNotBuilt names files before now part)
 IsOutcomeOf command files before now (Refused refusal) = IsSomeAnd command (λ names. IsRefused names files before now refusal)
-IsOutcomeOf command files before now (Answered formula horizon states) = IsSomeAnd command (λ names. IsAnswered names files before now formula horizon states)
+IsOutcomeOf command files before now (Answered formula horizon states) =
+    IsSomeAnd command (λ names. IsAnswered names files before now formula horizon states)
 
 -- what is answered to the words, the files and the formulas
 abbrev pub IsOutcome : List (List ℕ) → Option (List Pair) → Option (List ℕ) → Option (List ℕ) → Outcome → Type 0
 IsOutcome words files before now outcome = IsOutcomeOf (command_of words) files before now outcome
 
 abbrev pub usage_text : List ℕ
-usage_text = codes "usage: mrmc_any (ctmc M.tra M.lab | cmrm M.tra M.lab M.rew) [--workers 1..64] [--bits 8..48] [--jumps 1..16384] [--watch 0..1000] [--state 1..65536]" ++ 10 ∷ []
+usage_text =
+    codes "usage: mrmc_any (ctmc M.tra M.lab | cmrm M.tra M.lab M.rew)"
+    ++ codes " [--workers 1..64] [--bits 8..48] [--jumps 1..16384] [--watch 0..1000] [--state 1..65536]" ++ 10 ∷ []
 
 abbrev pub not_built_text : Part → List ℕ
 not_built_text Formula = codes "not built formula" ++ 10 ∷ []

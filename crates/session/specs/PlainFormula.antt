@@ -76,7 +76,8 @@ pub record IsLongestOp (text : List ℕ) (op : Op) (rest : List ℕ) : Type 0 wh
   pub longest : (other : Op) (after : List ℕ) → text ≡ op_text other ++ after → length rest ≤ length after
 
 -- a word of the number stands at the front of the text, then the byte that ends it, and then the rest
-pub record IsWordBefore (IsWord : List ℕ → DecimalNumber → Type 0) (ending : ℕ) (text : List ℕ) (d : DecimalNumber) (rest : List ℕ) : Type 0 where
+pub record IsWordBefore (IsWord : List ℕ → DecimalNumber → Type 0) (ending : ℕ) (text : List ℕ) (d : DecimalNumber)
+    (rest : List ℕ) : Type 0 where
   pub word : List ℕ
   pub is_word : IsWord word d
   pub split : text ≡ word ++ ending ∷ rest
@@ -84,7 +85,8 @@ pub record IsWordBefore (IsWord : List ℕ → DecimalNumber → Type 0) (ending
 -- the number whose word was taken from the front of a text, and none only where no number's word stands there
 abbrev pub IsNumberTaken : (List ℕ → DecimalNumber → Type 0) → ℕ → List ℕ → Option NumberFront → Type 0
 IsNumberTaken IsWord ending text taken =
-    MatchOption taken ((d : DecimalNumber) (rest : List ℕ) → ¬ IsWordBefore IsWord ending text d rest) (λ t. IsWordBefore IsWord ending text t.number t.rest.now)
+    MatchOption taken ((d : DecimalNumber) (rest : List ℕ) → ¬ IsWordBefore IsWord ending text d rest)
+    (λ t. IsWordBefore IsWord ending text t.number t.rest.now)
 
 -- the bytes are those of an until formula from its bracket on
 pub record IsUntilEnd (name bytes : List ℕ) (time : DecimalNumber) : Type 0 where

@@ -69,7 +69,8 @@ IsModelReading names files (FileFaulty fault) = IsFileFaulty names files fault
 
 -- the formula that the bytes are, over the declared name at its place, and none only where they are none over any
 abbrev pub IsNamedReading : List (List ℕ) → List ℕ → Option NamedFormula → Type 0
-IsNamedReading names bytes None = (label : ℕ) (formula : PlainFormula) → label < length names → ¬ IsPlainFormula (name_at names label) bytes formula
+IsNamedReading names bytes None =
+    (label : ℕ) (formula : PlainFormula) → label < length names → ¬ IsPlainFormula (name_at names label) bytes formula
 IsNamedReading names bytes (Some named) = (named.label < length names) × IsPlainFormula (name_at names named.label) bytes named.formula
 
 -- the formula that was read, or none
@@ -89,7 +90,8 @@ IsAnswerTo model named _ = ⊥
 abbrev pub IsFormulaOutcome : ModelLists → Option (List ℕ) → Option (List ℕ) → Outcome → Type 0
 IsFormulaOutcome model before now (NotBuilt Formula) = IsOtherInput model.names before now
 IsFormulaOutcome model before now (Refused refusal) = RefusesFormula (labelled_chain model) before now refusal
-IsFormulaOutcome model before now (Answered formula horizon states) = AnswersFormula (labelled_chain model) before now formula horizon states
+IsFormulaOutcome model before now (Answered formula horizon states) =
+    AnswersFormula (labelled_chain model) before now formula horizon states
 IsFormulaOutcome model before now _ = ⊥
 
 -- the name is asked for, or memory ran out

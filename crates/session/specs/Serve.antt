@@ -33,13 +33,15 @@ pub record Settles (words : List (List ℕ)) (files : Option (List Pair)) (left_
 
 -- the formula's text, its horizon where it is an until, and an answer for each state are printed, and each answer is exact: the bracket
 -- contains the probability of the formula's path, and what is said satisfied or refuted is so
-pub record AnswersExactly (names : FileNames) (files : Option (List Pair)) (left_before left_now before now : Option (List ℕ)) : Type 0 where
+pub record AnswersExactly (names : FileNames) (files : Option (List Pair))
+    (left_before left_now before now : Option (List ℕ)) : Type 0 where
   pub model : TakesModel names files
   pub label : ℕ
   pub formula : PlainFormula
   pub takes_formula : TakesFormula model.lab.names left_before left_now label formula
   pub states : List StateAnswer
-  pub printed : Appends before now (answer_text (formula_text (name_at model.lab.names label) formula) (formula_horizon (model_of model) formula) states)
+  pub printed : Appends before now
+      (answer_text (formula_text (name_at model.lab.names label) formula) (formula_horizon (model_of model) formula) states)
   pub each_state : length states ≡ model.tra.n
   pub exact : (s : ℕ) → s < model.tra.n → IsSomeAnd (slice_get states s) (IsExactAnswer (model_of model) label formula s)
 
@@ -48,7 +50,8 @@ abbrev pub IsRefusedInput : FileNames → Option (List Pair) → Option (List �
 IsRefusedInput names files left_before left_now = (refusal : Refusal) × IsRefused names files left_before left_now refusal
 
 -- a front of the outcome's text is written
-pub record IsCutShort (words : List (List ℕ)) (files : Option (List Pair)) (left_before left_now before now : Option (List ℕ)) : Type 0 where
+pub record IsCutShort (words : List (List ℕ)) (files : Option (List Pair))
+    (left_before left_now before now : Option (List ℕ)) : Type 0 where
   pub outcome : Outcome
   pub is_outcome : IsOutcome words files left_before left_now outcome
   pub front : WritesFront (outcome_text outcome) before now

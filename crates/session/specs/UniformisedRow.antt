@@ -9,4 +9,5 @@ share_entry s share = if nat_lt 0 share then record { to = s; num = share } ∷ 
 
 -- a transition's entry, with the share where it is the loop, and the share's entry before it where it is past the loop
 abbrev pub transition_entries : ℕ → ℕ → Rate → List Entry
-transition_entries s share r = (if nat_lt s r.to then share_entry s share else []) ++ record { to = r.to; num = r.rate + (if s == r.to then share else 0) } ∷ []
+transition_entries s share r =
+    (if nat_lt s r.to then share_entry s share else []) ++ record { to = r.to; num = r.rate + (if s == r.to then share else 0) } ∷ []

@@ -38,8 +38,8 @@ pub record IsTimeBound (chain : Chain) (bound : TimeBound) : Type 0 where
   pub uniform : bound.uniform ≡ uniform_rate chain
   pub fits : bound.uniform < 2 ^ 63
 
--- the plan is sound, and is that of reaching the goal within the load's time: its rows stand for the uniformised chain, every state is live,
--- and its weights are the load's
+-- the plan is sound, and is that of reaching the goal within the load's time: its rows stand for the uniformised chain, every state is
+-- live, and its weights are the load's
 pub record IsUntilPlan (chain : Chain) (load : Fraction) (goal : ℕ → Bool) (plan : PlanLists) : Type 0 where
   pub sound : IsSoundPlan plan
   pub rows : StandFor plan.frame.rows (uniformised chain)

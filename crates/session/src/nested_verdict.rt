@@ -32,7 +32,8 @@ pub(crate) fn check_next(
     threshold: Decimal,
 ) -> Result<Vec<StateAnswer>, AllocError>
     requires { label < length model.now.names }
-    ensures answers { IfOk result (λ states. states.items ≡ next_answers (chain_of model.now.n model.now.rates) (has_label model.now.marks label)
+    ensures answers { IfOk result (λ states. states.items ≡ next_answers (chain_of model.now.n model.now.rates)
+        (has_label model.now.marks label)
         (comparison_of op) (decimal_fraction threshold.c threshold.x)) }
     ensures printable { IfOk result (λ states. All IsPrintable states.items) }
     ensures few { IfOk result (λ states. length states.items ≤ 65536) }
@@ -87,7 +88,8 @@ impl Ends {
 pub(crate) fn words_answer(words: Bracket, op: Op, threshold: Decimal) -> StateAnswer
     requires lower { words.lower ≤ ONE }
     requires upper { words.upper ≤ ONE }
-    ensures answer { result ≡ words_answer (comparison_of op) record { lower = words.lower; upper = words.upper } (decimal_fraction threshold.c threshold.x) }
+    ensures answer { result ≡ words_answer (comparison_of op) record { lower = words.lower; upper = words.upper }
+        (decimal_fraction threshold.c threshold.x) }
     ensures printable { IsPrintable result }
 {
     let ends = Ends {

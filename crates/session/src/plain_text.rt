@@ -13,7 +13,8 @@ pub(crate) fn take_literal<'a>(text: &'a [u8], literal: &[u8]) -> Option<&'a [u8
 
 /// What comes before the first byte `ending` of the text, and what comes after it.
 pub(crate) fn take_until(text: &[u8], ending: u8) -> Option<(&[u8], &[u8])>
-    ensures { MatchOption result (All (λ byte. byte ≢ ending) text.now) (λ t. (text.now ≡ t.0.now ++ ending ∷ t.1.now) × All (λ byte. byte ≢ ending) t.0.now) }
+    ensures { MatchOption result (All (λ byte. byte ≢ ending) text.now)
+        (λ t. (text.now ≡ t.0.now ++ ending ∷ t.1.now) × All (λ byte. byte ≢ ending) t.0.now) }
 {
     let end = text.iter().position(|byte| *byte == ending)?;
     Some((&text[..end], &text[end + 1..]))

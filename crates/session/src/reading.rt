@@ -105,14 +105,18 @@ pub(crate) fn read_reply<F: Files, S: Source>(
     files: &mut F,
     formulas: &mut S,
 ) -> Result<Reply, Stop>
-    ensures outcome { IfOk result (λ reply. IsOutcome (map string_bytes words.now) (F.files files.old) (S.left formulas.old) (S.left formulas.new) (outcome_of reply)) }
+    ensures outcome { IfOk result (λ reply. IsOutcome (map string_bytes words.now) (F.files files.old) (S.left formulas.old)
+        (S.left formulas.new) (outcome_of reply)) }
     ensures writable { IfOk result IsWritable }
-    ensures untouched { IsUntouched (command_of (map string_bytes words.now)) (F.files files.old) (S.left formulas.old) (S.left formulas.new) }
+    ensures untouched { IsUntouched (command_of (map string_bytes words.now)) (F.files files.old) (S.left formulas.old)
+        (S.left formulas.new) }
     ensures command { IsErr result → ¬ IsNone (command_of (map string_bytes words.now)) }
-    ensures cause { HasReadCause (command_of (map string_bytes words.now)) (F.files files.old) (F.fault_count files.old) (F.fault_count files.new)
+    ensures cause { HasReadCause (command_of (map string_bytes words.now)) (F.files files.old) (F.fault_count files.old)
+        (F.fault_count files.new)
         (S.fault_count formulas.old) (S.fault_count formulas.new) (IsErrOf result Stop.Read) }
     ensures files { F.files files.new ≡ F.files files.old }
-    ensures asked { IfSome (F.files files.old) (λ _. AsksForReply (command_of (map string_bytes words.now)) result (F.asked files.old) (F.asked files.new)) }
+    ensures asked { IfSome (F.files files.old) (λ _. AsksForReply (command_of (map string_bytes words.now)) result (F.asked files.old)
+        (F.asked files.new)) }
 {
     let Some(command) = read_words(words) else {
         return Ok(Reply::Usage);
@@ -175,7 +179,8 @@ fn answer_until(
     requires label { label < length model.now.names }
     requires last { bound.last ≡ horizon bound.load until_bits }
     requires bound { IsTimeBound (model_chain model.now) bound }
-    ensures answers { IfOk result (λ states. states.items ≡ until_answers (model_chain model.now) bound.load (has_label model.now.marks label)
+    ensures answers { IfOk result (λ states. states.items ≡ until_answers (model_chain model.now) bound.load
+        (has_label model.now.marks label)
         (comparison_of op) (decimal_fraction threshold.c threshold.x)) }
     ensures printable { IfOk result (λ states. All IsPrintable states.items) }
     ensures few { IfOk result (λ states. length states.items ≤ 65536) }
@@ -193,7 +198,8 @@ fn read_model<F: Files>(
     ensures model { IfOk result (IsModelReading (file_names command.entry) (F.files files.old)) }
     ensures cause { HasCause (F.fault_count files.old) (F.fault_count files.new) (IsErrOf result Stop.Read) }
     ensures files { F.files files.new ≡ F.files files.old }
-    ensures asked { IfSome (F.files files.old) (λ _. AsksForModel (file_names command.entry) result (F.asked files.old) (F.asked files.new)) }
+    ensures asked { IfSome (F.files files.old) (λ _. AsksForModel (file_names command.entry) result (F.asked files.old)
+        (F.asked files.new)) }
 {
     let tra = match take_tra(alloc, files, command.tra)? {
         Ok(tra) => tra,

@@ -22,9 +22,11 @@ pub fn serve_surely(
 ) -> Status
     requires fresh { files.old.asked ≡ [] }
     requires named { IfSome (command_of (map string_bytes words.now)) (λ names. AreThere names files.old.files) }
-    ensures settled { IsMemoryOr result (Settles (map string_bytes words.now) (Some files.old.files) (Some formulas.old.left) (Some formulas.new.left)
+    ensures settled { IsMemoryOr result (Settles (map string_bytes words.now) (Some files.old.files) (Some formulas.old.left)
+        (Some formulas.new.left)
         (Some out.old.written) (Some out.new.written) (Some out.new.flushed) result) }
-    ensures told { (now : _) (outcome : Outcome) → IsOutcome (map string_bytes words.now) (Some files.old.files) (Some formulas.old.left) now outcome
+    ensures told { (now : _) (outcome : Outcome) → IsOutcome (map string_bytes words.now) (Some files.old.files) (Some formulas.old.left)
+        now outcome
         → IsMemoryOr result ((result ≡ outcome_status outcome) × (out.new.written ≡ out.old.written ++ outcome_text outcome)) }
 {
     serve(rt, alloc, words, files, formulas, out, &OpenGate)

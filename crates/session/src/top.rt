@@ -42,7 +42,8 @@ pub fn serve<F: Files, S: Source, K: Sink, G: Gate>(
     // A status that isn't a loss has its reason, and its text is written and flushed.
     ensures reason { IsLostOr result (Settles (map string_bytes words.now) (F.files files.old) (S.left formulas.old) (S.left formulas.new)
         (K.written out.old) (K.written out.new) (K.flushed out.new) result) }
-    ensures usage { result ≡ Status.Usage → IsNone (command_of (map string_bytes words.now)) × Keeps (S.left formulas.old) (S.left formulas.new) }
+    ensures usage { result ≡ Status.Usage → IsNone (command_of (map string_bytes words.now)) × Keeps (S.left formulas.old)
+        (S.left formulas.new) }
     ensures refused { result ≡ Status.Refused → IsSomeAnd (command_of (map string_bytes words.now)) (λ names.
         IsRefusedInput names (F.files files.old) (S.left formulas.old) (S.left formulas.new)) }
     ensures model { (fault : _) → result ≡ Status.Model fault → IsSomeAnd (command_of (map string_bytes words.now)) (λ names.
@@ -51,7 +52,8 @@ pub fn serve<F: Files, S: Source, K: Sink, G: Gate>(
         IsNotBuilt names (F.files files.old) (S.left formulas.old) (S.left formulas.new) part) }
 
     // Where all is told, the status and the text are a function of the words, the files and the formulas.
-    ensures told { (pairs : List Pair) (left written : List ℕ) (now : _) (outcome : Outcome) → F.files files.old ≡ Some pairs → S.left formulas.old ≡ Some left
+    ensures told { (pairs : List Pair) (left written : List ℕ) (now : _) (outcome : Outcome) → F.files files.old ≡ Some pairs → S.left
+        formulas.old ≡ Some left
         → K.written out.old ≡ Some written → IsOutcome (map string_bytes words.now) (Some pairs) (Some left) now outcome
         → IsLostOr result ((result ≡ outcome_status outcome) × (K.written out.new ≡ Some (written ++ outcome_text outcome))) }
 
@@ -59,7 +61,8 @@ pub fn serve<F: Files, S: Source, K: Sink, G: Gate>(
     ensures only_usage { IsNone (command_of (map string_bytes words.now)) → IsUsageOrLost result }
 
     // A fault that is told has its cause, none is hidden, and a call that failed isn't made again.
-    ensures read { HasReadCause (command_of (map string_bytes words.now)) (F.files files.old) (F.fault_count files.old) (F.fault_count files.new)
+    ensures read { HasReadCause (command_of (map string_bytes words.now)) (F.files files.old) (F.fault_count files.old)
+        (F.fault_count files.new)
         (S.fault_count formulas.old) (S.fault_count formulas.new) (result ≡ Status.Outside Fault.Read) }
     ensures write { HasCause (K.fault_count out.old) (K.fault_count out.new) (result ≡ Status.Outside Fault.Write) }
 
@@ -68,16 +71,19 @@ pub fn serve<F: Files, S: Source, K: Sink, G: Gate>(
     ensures cut_short { result ≡ Status.Outside Fault.Write → IsCutShort (map string_bytes words.now) (F.files files.old)
         (S.left formulas.old) (S.left formulas.new) (K.written out.old) (K.written out.new) }
     ensures memory { result ≡ Status.Memory → (Keeps (K.written out.old) (K.written out.new)
-        ⊎ IsCutShort (map string_bytes words.now) (F.files files.old) (S.left formulas.old) (S.left formulas.new) (K.written out.old) (K.written out.new)) }
+        ⊎ IsCutShort (map string_bytes words.now) (F.files files.old) (S.left formulas.old) (S.left formulas.new) (K.written out.old)
+        (K.written out.new)) }
 
     ensures unflushed { IsLost result → K.flushed out.new ≡ K.flushed out.old }
 
     // Nothing is taken of the formulas unless the files stand for a model.
-    ensures untouched { IsUntouched (command_of (map string_bytes words.now)) (F.files files.old) (S.left formulas.old) (S.left formulas.new) }
+    ensures untouched { IsUntouched (command_of (map string_bytes words.now)) (F.files files.old) (S.left formulas.old)
+        (S.left formulas.new) }
 
     // The files stay, and only what the status needs is asked for.
     ensures files { F.files files.new ≡ F.files files.old }
-    ensures asked { IfSome (F.files files.old) (λ _. AsksBy result (command_of (map string_bytes words.now)) (F.asked files.old) (F.asked files.new)) }
+    ensures asked { IfSome (F.files files.old) (λ _. AsksBy result (command_of (map string_bytes words.now)) (F.asked files.old)
+        (F.asked files.new)) }
 {
     let reply = match read_reply(alloc, words, files, formulas) {
         Ok(reply) => reply,

@@ -38,7 +38,8 @@ fn uniformised_row(alloc: Global, model: &Model, s: u32, uniform: u64) -> Result
     requires bound { uniform < 2 ^ 63 }
     ensures sound { IfOk result (λ row. IsSoundRow model.now.n row) }
     ensures divisor { IfOk result (λ row. row.den ≡ uniform) }
-    ensures numbers { IfOk result (λ row. (t : ℕ) → t < model.now.n → number_to row.entries t ≡ (uniformised (model_chain model.now)).weight s t) }
+    ensures numbers { IfOk result (λ row. (t : ℕ) → t < model.now.n → number_to row.entries
+        t ≡ (uniformised (model_chain model.now)).weight s t) }
 {
     let row = model.row(s);
     let mut entries = Vec::with_capacity(alloc, row.len() + 1)?;

@@ -63,14 +63,16 @@ split_at R (x ∷ xs) (y ∷ ys) (suc k) h l =
 
 -- entries before a place, at it and after it
 pub parts : {K Key : Type 0} (key_of : K → Key) (es : List (EntryLine K)) (place : ℕ) (d : EntryLine K) → place < length es
-    → entries_of key_of es ≡ entries_of key_of (take place es) ++ entry_of key_of (get_or es place d) ∷ entries_of key_of (drop (place + 1) es)
+    → entries_of key_of es ≡ entries_of key_of (take place es) ++ entry_of key_of (get_or es place d) ∷ entries_of key_of
+    (drop (place + 1) es)
 parts key_of es place d within =
     ap (entries_of key_of) (sym (take-append-drop place es) ∙ ap (λ z. take place es ++ z) (drop_more es place d within))
     ∙ map-append (entry_of key_of) (take place es) (get_or es place d ∷ drop (place + 1) es)
 
 -- the keys of the entries before a place don't have the one there
 pub new_before : {K Key : Type 0} (key_of : K → Key) (es : List (EntryLine K)) (place : ℕ) (d : EntryLine K) → place < length es
-    → AllPairs ◌≢◌ (keys_of (entries_of key_of es)) → ¬ Contains (keys_of (entries_of key_of (take place es))) (key_of (get_or es place d).key)
+    → AllPairs ◌≢◌ (keys_of (entries_of key_of es))
+    → ¬ Contains (keys_of (entries_of key_of (take place es))) (key_of (get_or es place d).key)
 new_before {K} {Key} key_of es place d within once =
     let before : List (Entry Key) = entries_of key_of (take place es) in
     let after : List (Entry Key) = entries_of key_of (drop (place + 1) es) in
@@ -165,7 +167,8 @@ module _ {K Key : Type 0} (kind : Kind Key) (key_of : K → Key) where
   -- ---- a limit
 
   -- the first entry that goes past a limit is on the line that does
-  pub line_past : (IsWithin IsPast : ℕ → List (Entry Key) → Type 0) (lines : List WordLine) (es : List (EntryLine K)) (place : ℕ) (d : EntryLine K)
+  pub line_past : (IsWithin IsPast : ℕ → List (Entry Key) → Type 0) (lines : List WordLine) (es : List (EntryLine K)) (place : ℕ)
+      (d : EntryLine K)
       → AreRead kind key_of lines es
       → IsFirstPast key_of (IsWithin (scale_of (entries_of key_of es))) (IsPast (scale_of (entries_of key_of es))) es place
       → HasLinePast kind IsWithin IsPast lines (get_or es place d).line

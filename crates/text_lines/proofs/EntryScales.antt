@@ -14,7 +14,8 @@ map-more f xs i d within = ap (map f) (take_more xs i d within) ∙ map-append f
 
 -- the scale, with one entry more
 pub scale-more : {K : Type 0} (entries : List (EntryLine K)) (i : ℕ) (d : EntryLine K) → i < length entries
-    → greatest_decimals (map value_of (take (i + 1) entries)) ≡ max (greatest_decimals (map value_of (take i entries))) (get_or entries i d).decimals
+    → greatest_decimals (map value_of (take (i + 1) entries)) ≡ max (greatest_decimals (map value_of (take i entries)))
+    (get_or entries i d).decimals
 scale-more entries i d within =
     ap greatest_decimals (map-more value_of entries i d within)
     ∙ greatest-push (map value_of (take i entries)) (value_of (get_or entries i d))

@@ -59,7 +59,8 @@ module _ {A : Type 0} (IsSaid : A → Type 0) (IsFault : ℕ → FileWhat → Ty
     either (Faults k v) h = inr (k, v, h)
 
   -- what a reader answers, whose answers hold, is what is due, unless memory ran out
-  module _ (answer : Result A ReadFault) (value : IfOk answer IsSaid) (fault : (at : FileFault) → answer ≡ Err (At at) → IsFault at.line at.what) where
+  module _ (answer : Result A ReadFault) (value : IfOk answer IsSaid)
+      (fault : (at : FileFault) → answer ≡ Err (At at) → IsFault at.line at.what) where
     pub says_exactly : (a : A) → IsSaid a → (answer ≡ Ok a) ⊎ (answer ≡ Err Memory)
     says_exactly a h = by_answer answer refl value where
       by_answer : (r : Result A ReadFault) → answer ≡ r → IfOk r IsSaid → (r ≡ Ok a) ⊎ (r ≡ Err Memory)

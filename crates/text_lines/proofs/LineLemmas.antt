@@ -131,7 +131,10 @@ byte_before b text (l ∷ ls) rest n no_cr e h r = record {
     record {
       no_lf = All-from_recursion IsNoLf (b ∷ l.bytes) (n, recursion_from_All IsNoLf l.bytes h.0.no_lf);
       no_cr =
-          λ is. no_cr-more b l.bytes (λ cr none. no_cr cr (ap begins_with_lf (e ∙ ap (λ z. (z ++ ending_text l.ending ++ ended_text ls) ++ rest) none ∙ ap (λ z. (ending_text z ++ ended_text ls) ++ rest) is))) (h.0.no_cr is);
+          λ is. no_cr-more b l.bytes
+          (λ cr none. no_cr cr (ap begins_with_lf
+          (e ∙ ap (λ z. (z ++ ending_text l.ending ++ ended_text ls) ++ rest) none ∙ ap (λ z. (ending_text z ++ ended_text ls) ++ rest)
+          is))) (h.0.no_cr is);
     },
     h.1,
   );

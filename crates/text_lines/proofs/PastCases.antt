@@ -80,7 +80,8 @@ module _ {E : Type 0} (IsWithin IsPast : List E → Type 0) where
         ∙ all_within (before ++ e ∷ []) lines es (subst IsWithin (sym (append_assoc before (e ∷ []) es)) h)
 
     -- this is the first line that isn't
-    pub past_is : (before : List E) (earlier : List WordLine) (line : WordLine) (later : List WordLine) (front : List E) (e : E) (after : List E)
+    pub past_is : (before : List E) (earlier : List WordLine) (line : WordLine) (later : List WordLine) (front : List E) (e : E)
+        (after : List E)
         → length earlier ≡ length front → IsWithin (before ++ front) → IsPast ((before ++ front) ++ e ∷ [])
         → first_past before (earlier ++ line ∷ later) (front ++ e ∷ after) ≡ Some line.number
     past_is before [] line later [] e after place within past =

@@ -463,7 +463,8 @@ length-words_from column [] = omega arith
 length-words_from column (b ∷ bs) =
     omega (arith, at_most (is_blank b) (begins_word bs) column b bs (words_from (column + 1) bs) (length-words_from (column + 1) bs)) where
       at_most : (s t : Bool) (column b : ℕ) (bs : List ℕ) (more : List WordText) → length more ≤ length bs
-          → length (if s then more else if t then lengthened column b more else record { column = column; bytes = b ∷ [] } ∷ more) ≤ length bs + 1
+          → length (if s then more else if t then lengthened column b more else record { column = column; bytes = b ∷ [] } ∷ more) ≤ length
+          bs + 1
       at_most true t column b bs more h = omega arith
       at_most false true column b bs [] h = omega arith
       at_most false true column b bs (w ∷ ws) h = omega arith

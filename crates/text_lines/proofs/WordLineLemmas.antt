@@ -66,6 +66,7 @@ pub word_lines_in-filled : (line : LineText) (lines : List LineText) (w : WordTe
     → word_lines_in (line ∷ lines) ≡ word_line line ∷ word_lines_in lines
 word_lines_in-filled line lines w ws e = stays line.number (words_of line.bytes) (map word_line lines) e where
   stays : (n : ℕ) (vs : List WordText) (rows : List WordLine) → vs ≡ w ∷ ws
-      → filter has_words (record { number = n; words = map (λ v. v.bytes) vs } ∷ rows) ≡ record { number = n; words = map (λ v. v.bytes) vs } ∷ filter has_words rows
+      → filter has_words (record { number = n; words = map (λ v. v.bytes) vs } ∷ rows) ≡ record
+      { number = n; words = map (λ v. v.bytes) vs } ∷ filter has_words rows
   stays n [] rows e = cc
   stays n (v ∷ vs) rows e = refl

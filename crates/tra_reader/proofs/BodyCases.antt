@@ -95,7 +95,8 @@ pub take_front : (front more : List WordLine) (count : ℕ) → length front ≡
 take_front front more count h = subst (λ z. take z (front ++ more) ≡ front) h (take_length front more)
 
 -- a line that fails among all lines, where it is due, and among those that are due
-pub due_fails : {Key : Type 0} (kind : Kind Key) (lines : List WordLine) (count number : ℕ) (w : FileWhat) (h : HasFailingLine kind lines number w)
+pub due_fails : {Key : Type 0} (kind : Kind Key) (lines : List WordLine) (count number : ℕ) (w : FileWhat)
+    (h : HasFailingLine kind lines number w)
     → length h.front < count → HasFailingLine kind (take count lines) number w
 due_fails kind lines count number w h due = record {
   front = h.front;

@@ -71,19 +71,34 @@ transitions_are n d entries h k r l =
 none_pass : {X : Type 0} (p : X → Bool) (xs : List X) → ((k : ℕ) (d : X) → k < length xs → p (get_or xs k d) ≡ false) → count_by p xs ≡ 0
 none_pass p [] h = refl
 none_pass {X} p (x ∷ xs) h =
-    omega
-    (arith, sum_by-cons (λ (y : X). cond (p y) 1 0) x xs, cond-false {A = ℕ} (p x) 1 0 (h 0 x (omega arith)), none_pass p xs (λ k d l. h (suc k) d (omega arith)))
+    omega (
+      arith,
+      sum_by-cons (λ (y : X). cond (p y) 1 0) x xs,
+      cond-false {A = ℕ} (p x) 1 0 (h 0 x (omega arith)),
+      none_pass p xs
+          (λ k d l. h (suc k) d (omega arith)),
+    )
 
 one_passes : {X : Type 0} (p : X → Bool) (xs : List X) → AllPairs (λ x y. p x ≡ true → p y ≡ true → ⊥) xs → count_by p xs ≤ 1
 one_passes p [] h = omega arith
 one_passes {X} p (x ∷ xs) h =
     elim (cases_Bool (p x)) [
       | inl t ↦
-          omega
-          (arith, sum_by-cons (λ (y : X). cond (p y) 1 0) x xs, cond-true {A = ℕ} (p x) 1 0 t, none_pass p xs (λ k d l. false_from_ne_true (p (get_or xs k d)) (h 0 (suc k) d (omega arith) (omega arith) t)))
+          omega (
+            arith,
+            sum_by-cons (λ (y : X). cond (p y) 1 0) x xs,
+            cond-true {A = ℕ} (p x) 1 0 t,
+            none_pass p xs
+                (λ k d l. false_from_ne_true (p (get_or xs k d)) (h 0 (suc k) d (omega arith) (omega arith) t)),
+          )
       | inr f ↦
-          omega
-          (arith, sum_by-cons (λ (y : X). cond (p y) 1 0) x xs, cond-false {A = ℕ} (p x) 1 0 f, one_passes p xs (λ i j d l k. h (suc i) (suc j) d (omega arith) (omega arith)))
+          omega (
+            arith,
+            sum_by-cons (λ (y : X). cond (p y) 1 0) x xs,
+            cond-false {A = ℕ} (p x) 1 0 f,
+            one_passes p xs
+                (λ i j d l k. h (suc i) (suc j) d (omega arith) (omega arith)),
+          )
     ]
 
 -- two transitions that are between the same states
@@ -131,7 +146,8 @@ exits_are scale es rates is within s = omega (arith, ap (λ z. exit_sum z s) is,
 
 -- so they are a chain
 pub is_tra : (n scale : ℕ) (es : List (EntryLine Pair)) (rates : List Rate) → 1 ≤ n → n ≤ MOST_STATES → scale ≤ 18 → All (IsKept n) es
-    → AllPairs ◌≢◌ (keys_of (entries_of pair_of es)) → AreWithin scale (entries_of pair_of es) → rates ≡ chain_rates scale (entries_of pair_of es)
+    → AllPairs ◌≢◌ (keys_of (entries_of pair_of es)) → AreWithin scale (entries_of pair_of es)
+    → rates ≡ chain_rates scale (entries_of pair_of es)
     → IsTra (record { n = n; scale = scale; rates = rates })
 is_tra n scale es rates some few short h once within is =
     let entries = entries_of pair_of es in

@@ -75,7 +75,8 @@ stops_due n count done more Missing h = omega (arith, h.1)
 stops_due n count done more (Further number) h = omega (arith, h.full)
 stops_due n count done more (Failing number fault) h = omega (arith, h.due)
 
-module _ (n count : ℕ) (rows : List WordLine) (es : List (EntryLine Pair)) (more : List WordLine) (read : HasRead (transition_lines n) pair_of rows es more) where
+module _ (n count : ℕ) (rows : List WordLine) (es : List (EntryLine Pair)) (more : List WordLine)
+    (read : HasRead (transition_lines n) pair_of rows es more) where
   -- all lines are right
   pub all_read : AreApart es → more ≡ [] → length es ≡ count → AreAllRead n count rows es
   all_read apart none full =
@@ -206,7 +207,8 @@ module _ (body : Body) (place : ℕ) (first : IsFirstRepeat (map number_of body.
     pub further : (lines : List WordLine) (end number : ℕ) → body.stop ≡ Further number → IsBodyFault lines end body number what.Count
     further lines end number e n count rows head is =
         inr
-        (too_many n count rows body.entries.items is.more is.read lines head number apart (subst (StopsAt n count (length body.entries.items) is.more) e is.stops))
+        (too_many n count rows body.entries.items is.more is.read lines head number apart
+        (subst (StopsAt n count (length body.entries.items) is.more) e is.stops))
 
     pub failing : (lines : List WordLine) (end number : ℕ) (fault : FileWhat) → body.stop ≡ Failing number fault
         → IsBodyFault lines end body number fault

@@ -37,7 +37,8 @@ count-lacking keyword line rows others end first none = record {
 
 -- ---- counts out of range
 
-module _ (limit : ℕ) (most : limit ≡ MOST_STATES) (rows others : List WordLine) (s : CountLine) (is : IsNextCount limit (codes "STATES") rows s others) where
+module _ (limit : ℕ) (most : limit ≡ MOST_STATES) (rows others : List WordLine) (s : CountLine)
+    (is : IsNextCount limit (codes "STATES") rows s others) where
   -- the number of states is 0 or more than the greatest one
   pub states-outside : (s.count ≡ 0) ⊎ ((s.count ≢ 0) × (limit < s.count)) → StatesOutOfRange rows s.number
   states-outside range = record {

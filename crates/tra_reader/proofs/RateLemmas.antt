@@ -39,7 +39,8 @@ sum_of scale es s = exit_sum (scaled_rates scale (entries es)) s
 -- ---- with one entry more
 
 rates-more : (scale : ℕ) (es : List (EntryLine Pair)) (i : ℕ) (d : EntryLine Pair) → i < length es
-    → scaled_rates scale (entries (take (i + 1) es)) ≡ scaled_rates scale (entries (take i es)) ++ scaled_rate scale (entry (get_or es i d)) ∷ []
+    → scaled_rates scale (entries (take (i + 1) es)) ≡ scaled_rates scale (entries (take i es)) ++ scaled_rate scale
+    (entry (get_or es i d)) ∷ []
 rates-more scale es i d within =
     ap (map (scaled_rate scale)) (map-more (entry_of pair_of) es i d within)
     ∙ map-append (scaled_rate scale) (entries (take i es)) (entry (get_or es i d) ∷ [])
@@ -61,7 +62,8 @@ sum_of-more scale es i d s within =
     ∙ sum_by_push (pick s) (scaled_rates scale (entries (take i es))) (scaled_rate scale (entry (get_or es i d)))
 
 sum_of-same : (scale : ℕ) (es : List (EntryLine Pair)) (i : ℕ) (d : EntryLine Pair) → i < length es
-    → sum_of scale (take (i + 1) es) (get_or es i d).key.from ≡ sum_of scale (take i es) (get_or es i d).key.from + rate_at scale (get_or es i d)
+    → sum_of scale (take (i + 1) es) (get_or es i d).key.from ≡ sum_of scale (take i es) (get_or es i d).key.from + rate_at scale
+    (get_or es i d)
 sum_of-same scale es i d within =
     let e = get_or es i d in
     sum_of-more scale es i d e.key.from within
@@ -109,7 +111,8 @@ next_sum scale n es i d sums from old default value within state before from_is 
     in
     record { within = within; state = state; is = omega (arith, here, value_is); before = before }
 
-module _ (scale n : ℕ) (es : List (EntryLine Pair)) (i : ℕ) (d : EntryLine Pair) (sums : List ℕ) (sum : ℕ) (next : IsNextSum scale n es i d sums sum) where
+module _ (scale n : ℕ) (es : List (EntryLine Pair)) (i : ℕ) (d : EntryLine Pair) (sums : List ℕ) (sum : ℕ)
+    (next : IsNextSum scale n es i d sums sum) where
   -- it stays below the limit
   pub sums-more : sum < AMOUNT_LIMIT → AreSums scale n (take (i + 1) es) (set sums (get_or es i d).key.from sum)
   sums-more small =
@@ -172,7 +175,8 @@ abbrev is_some : Rate → Bool
 is_some r = nat_lt 0 r.rate
 
 chain-more : (scale : ℕ) (es : List (EntryLine Pair)) (i : ℕ) (d : EntryLine Pair) → i < length es
-    → chain_rates scale (entries (take (i + 1) es)) ≡ chain_rates scale (entries (take i es)) ++ filter is_some (kept_rate scale (get_or es i d) ∷ [])
+    → chain_rates scale (entries (take (i + 1) es)) ≡ chain_rates scale (entries (take i es)) ++ filter is_some
+    (kept_rate scale (get_or es i d) ∷ [])
 chain-more scale es i d within =
     let e = get_or es i d in
     let before = scaled_rates scale (entries (take i es)) in

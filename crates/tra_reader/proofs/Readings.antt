@@ -184,7 +184,8 @@ module _ (lines : List WordLine) (end : ℕ) where
         let whole : AreDue b.body entries = subst (λ z. AreDue z entries) (take_all b.count b.body (omega (arith, all))) are in
         subst (λ z. Holds (by_count b.n b.body entries z)) (sym e)
         (rates_hold entries whole all (first_large d b.body entries)
-        (first_past_holds (AreWithin d) (HasTooLarge d) (rate_limit d) [] b.body entries (zip_long (IsEntry (transition_lines b.n)) b.body entries whole.each) (rate_limit d).none))
+        (first_past_holds (AreWithin d) (HasTooLarge d) (rate_limit d) [] b.body entries
+        (zip_long (IsEntry (transition_lines b.n)) b.body entries whole.each) (rate_limit d).none))
     count_holds entries are c (Few e short) =
         let whole : AreDue b.body entries = subst (λ z. AreDue z entries) (take_all b.count b.body (omega (arith, short))) are in
         subst (λ z. Holds (by_count b.n b.body entries z)) (sym e)

@@ -85,7 +85,8 @@ none-repeats numbers rises = record {
   within = omega arith;
   once =
       once-below numbers (length numbers) (omega arith)
-      (λ a b below inside e. let less : get_or numbers a 0 < get_or numbers b 0 = AllPairs-from_increasing numbers rises a b 0 below inside in omega arith);
+      (λ a b below inside e. let less : get_or numbers a 0 < get_or numbers b 0 = AllPairs-from_increasing numbers rises a b 0 below inside
+      in omega arith);
   repeats = λ past. absurd (omega arith);
 }
 
@@ -96,7 +97,8 @@ turned x y =
       | inr other ↦ other ∙ sym (ne_eqb y x (λ e. eqb-false x y other (sym e)))
     ]
 
-module _ (numbers keys sorted : List ℕ) (few : length numbers ≤ MOST_TRANSITIONS) (are : AreKeys numbers keys) (moved : IsPermutation keys sorted) (in_order : IsSorted nat_cmp sorted) where
+module _ (numbers keys sorted : List ℕ) (few : length numbers ≤ MOST_TRANSITIONS) (are : AreKeys numbers keys)
+    (moved : IsPermutation keys sorted) (in_order : IsSorted nat_cmp sorted) where
   -- where the key of a place stands
   sorted_of : (i : ℕ) → i < length numbers → (p : ℕ) × (p < length sorted) × (get_or sorted p 0 ≡ get_or numbers i 0 * PLACES + i)
   sorted_of i within =

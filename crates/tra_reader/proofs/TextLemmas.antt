@@ -23,7 +23,8 @@ use Rattle.tra_reader.specs.TraText.{AreWithin, HasTooLarge, LinesSayTra, TraSay
 use Rattle.tra_reader.specs.declared.entry.Pair.{Pair}
 use Rattle.tra_reader.proofs.RateLemmas.{no_entry}
 
-module _ (lines rows : List WordLine) (n count : ℕ) (es : List (EntryLine Pair)) (head : HasHead lines n count rows) (read : AreAllRead n count rows es) where
+module _ (lines rows : List WordLine) (n count : ℕ) (es : List (EntryLine Pair)) (head : HasHead lines n count rows)
+    (read : AreAllRead n count rows es) where
   -- the lines say the chain of their entries
   pub says_chain : (tra : TraLists) → IsChainOf n es tra → LinesSayTra lines tra
   says_chain tra chain = record {
@@ -63,9 +64,11 @@ module _ (lines rows : List WordLine) (n count : ℕ) (es : List (EntryLine Pair
   told_made end (Err fault) h = told_weaker (HasRateFault es) (LinesHaveFault lines end) (rate_fault end) fault h
 
 -- what was made of the lines that were seen is what the text says
-pub text_made : (text : List ℕ) (seen : List LineText) (rows : List WordLine) (n count : ℕ) (es used : List (EntryLine Pair)) (made : Result TraLists ReadFault)
+pub text_made : (text : List ℕ) (seen : List LineText) (rows : List WordLine) (n count : ℕ) (es used : List (EntryLine Pair))
+    (made : Result TraLists ReadFault)
     → seen ≡ lines_of text → HasHead (word_lines_in seen) n count rows → AreAllRead n count rows es → used ≡ es
-    → IfOk made (IsChainOf n used) → IfErr made (IsToldBy (HasRateFault used)) → IfOk made (TraSays text) × IfErr made (IsToldBy (TraFaultAt text))
+    → IfOk made (IsChainOf n used) → IfErr made (IsToldBy (HasRateFault used))
+    → IfOk made (TraSays text) × IfErr made (IsToldBy (TraFaultAt text))
 text_made text seen rows n count es used made all head read same value fault =
     let of_text : HasHead (word_lines_of text) n count rows = subst (λ z. HasHead (word_lines_in z) n count rows) all head in
     let of_used : AreAllRead n count rows used = subst (AreAllRead n count rows) (sym same) read in (

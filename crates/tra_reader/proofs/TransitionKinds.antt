@@ -115,6 +115,11 @@ no_states n a b line u v w words from to a_is b_is outside = record {
   outside = λ are.
       let from_state = are.from_state in
       let to_state = are.to_state in
-      outside
-      (omega (arith, from_state.0, from_state.1), omega (arith, from_state.0, from_state.1), omega (arith, to_state.0, to_state.1), omega (arith, to_state.0, to_state.1));
+      outside (
+        omega (arith, from_state.0, from_state.1),
+        omega (arith, from_state.0, from_state.1),
+        omega (arith, to_state.0, to_state.1),
+        omega
+            (arith, to_state.0, to_state.1),
+      );
 }

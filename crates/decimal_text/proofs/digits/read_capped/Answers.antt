@@ -21,5 +21,7 @@ loop-byte-preserved c =
       number =
           c.saturating_add-number.ensures
           ∙ ap (λ (d : ℕ). min (c.saturating_mul.result + d) (2 ^ 64 - 1)) c.from.ensures
-          ∙ capped_more c.loop-byte.number _ _ c.in_ok-digit.digit c.saturating_mul.result c.loop-byte.invariant.number c.saturating_mul.ensures (digits_value_after-more 0 c.args.text.now c.loop-byte.byte-index c.in_ok-digit.digit within (sym digit.1));
+          ∙ capped_more c.loop-byte.number _ _ c.in_ok-digit.digit c.saturating_mul.result c.loop-byte.invariant.number
+          c.saturating_mul.ensures
+          (digits_value_after-more 0 c.args.text.now c.loop-byte.byte-index c.in_ok-digit.digit within (sym digit.1));
     }

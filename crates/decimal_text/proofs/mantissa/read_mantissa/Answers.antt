@@ -51,7 +51,12 @@ pointed : (text rest after end : List ℕ) (k j : ℕ) (s : Significand) → res
 pointed text rest after end k j s r p t run more some n = record {
   spelling = mantissa (take k text) (Some (take j after));
   mantissa =
-      record { whole = run.digits; decimals = more.digits; some = omega (arith, run.within, more.within, length-take k text, length-take j after) };
+      record {
+        whole = run.digits;
+        decimals = more.digits;
+        some = omega
+            (arith, run.within, more.within, length-take k text, length-take j after);
+      };
   spelled =
       sym (take-append-drop k text)
       ∙ ap (λ z. take k text ++ z) (sym r ∙ p ∙ ap (λ z. 46 ∷ z) (sym (take-append-drop j after) ∙ ap (λ z. take j after ++ z) (sym t)))

@@ -28,7 +28,8 @@ no_number word rest s f m none = λ n.
 record Answered (word : List ℕ) (r : Result DecimalNumber NumberFault) : Type 0 where
   spelling : Spelling
   spelled : IsSpelledAs word spelling
-  answer : IsAnswerFor (mantissa_number spelling.mantissa) (tens_up spelling.exponent) (length (decimals_of spelling.mantissa) + tens_down spelling.exponent) r
+  answer : IsAnswerFor (mantissa_number spelling.mantissa) (tens_up spelling.exponent)
+      (length (decimals_of spelling.mantissa) + tens_down spelling.exponent) r
 
 stands : (word : List ℕ) (s : Spelling) → IsSpelledAs word s → (d : DecimalNumber) → IsValueOf s d → StandsFor word d
 stands word s spelled d value = record { spelling = s; spelled = spelled; value = value }
@@ -131,9 +132,15 @@ returns-in_default-read_exponent-clause-number c d s short =
     absurd (no_number _ _ _ _ c.in-Some.ensures.mantissa c.in_default-read_exponent.ensures (s.spelling, s.spelled))
 
 pub returns-in_default-read_exponent-clause-too_fine : goal.returns-in_default-read_exponent-clause-too_fine
-returns-in_default-read_exponent-clause-too_fine c =
-    (λ e. cc, λ t. absurd (no_number _ _ _ _ c.in-Some.ensures.mantissa c.in_default-read_exponent.ensures (t.stands.spelling, t.stands.spelled)))
+returns-in_default-read_exponent-clause-too_fine c = (
+  λ e. cc,
+  λ t. absurd
+      (no_number _ _ _ _ c.in-Some.ensures.mantissa c.in_default-read_exponent.ensures (t.stands.spelling, t.stands.spelled)),
+)
 
 pub returns-in_default-read_exponent-clause-too_big : goal.returns-in_default-read_exponent-clause-too_big
-returns-in_default-read_exponent-clause-too_big c =
-    (λ e. cc, λ t. absurd (no_number _ _ _ _ c.in-Some.ensures.mantissa c.in_default-read_exponent.ensures (t.stands.spelling, t.stands.spelled)))
+returns-in_default-read_exponent-clause-too_big c = (
+  λ e. cc,
+  λ t. absurd
+      (no_number _ _ _ _ c.in-Some.ensures.mantissa c.in_default-read_exponent.ensures (t.stands.spelling, t.stands.spelled)),
+)

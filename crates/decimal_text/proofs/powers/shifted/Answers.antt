@@ -27,4 +27,5 @@ product a b limit v p k r ea eb ep el er =
 
 pub returns : goal.returns
 returns c =
-    product c.from.result c.from-2.result c.from-3.result c.args.value c.power_of_ten.result c.args.power c.min.result c.from.ensures c.from-2.ensures c.power_of_ten.ensures.power c.from-3.ensures c.min.ensures
+    product c.from.result c.from-2.result c.from-3.result c.args.value c.power_of_ten.result c.args.power c.min.result c.from.ensures
+    c.from-2.ensures c.power_of_ten.ensures.power c.from-3.ensures c.min.ensures

@@ -36,15 +36,18 @@ returns-then-value-eq0-clause-reads_back c =
     subst (StandsFor c.extend_from_slice.new.self.items) c.value.view_is
     (
     reads_back c.extend_from_slice.new.self.items _ c.value.invariant
-    (c.in_ok-extend_from_slice.ensures.items ∙ ap (λ z. z ++ c.as_bytes.result.now) c.in_ok-text.ensures.items ∙ c.as_bytes.ensures.value ∙ c.format.ensures.text ∙ sym (text-whole _ c.if-value-eq0.true))
+    (c.in_ok-extend_from_slice.ensures.items ∙ ap (λ z. z ++ c.as_bytes.result.now) c.in_ok-text.ensures.items ∙ c.as_bytes.ensures.value
+    ∙ c.format.ensures.text ∙ sym (text-whole _ c.if-value-eq0.true))
     )
 
 pub returns-clause-text : goal.returns-clause-text
 returns-clause-text c =
-    written _ _ _ _ _ _ c.in_ok-text.ensures.items c.in_ok-extend_from_slice-2.ensures.items c.in_ok-push.ensures.items c.in_ok-extend_from_slice-3.ensures.items
+    written _ _ _ _ _ _ c.in_ok-text.ensures.items c.in_ok-extend_from_slice-2.ensures.items c.in_ok-push.ensures.items
+    c.in_ok-extend_from_slice-3.ensures.items
     ∙ pointed _ c.power_of_ten.result _ _ c.if-value-eq0.false c.power_of_ten.ensures.power
     (c.as_bytes-2.ensures.value ∙ c.format-2.ensures.text)
-    (end_of_array c.value.inside.x c.last_digits.result _ c.value.invariant.decimals c.last_digits.ensures (length-fixed_digits c.value.inside.x c.value.inside.c))
+    (end_of_array c.value.inside.x c.last_digits.result _ c.value.invariant.decimals c.last_digits.ensures
+    (length-fixed_digits c.value.inside.x c.value.inside.c))
     ∙ ap canonical_text c.value.view_is
 
 pub returns-clause-reads_back : goal.returns-clause-reads_back

@@ -18,7 +18,8 @@ loop-written-preserved c =
       size = search rules;
       whole_and_point =
           rw
-          (take-set-le 2 c.loop-written.text (13 - i) (48 + c.loop-written.rest % 10) (omega arith)) c.loop-written.invariant.whole_and_point;
+          (take-set-le 2 c.loop-written.text (13 - i) (48 + c.loop-written.rest % 10) (omega arith))
+          c.loop-written.invariant.whole_and_point;
       decimals =
           one_digit_back (12 - (i + 1)) (12 - i) (13 - i) (14 - (i + 1)) (14 - i) c.loop-written.rest c.loop-written.text (omega arith)
           (omega arith) (omega arith) (omega arith)

@@ -25,4 +25,5 @@ loop-line-preserved c =
     c.index_mut.ensures.value ∙ get_or_default marks place c.index_mut.result.now 0 inside
     in
     rw old
-    (marked_more c.args.n names body marks line left c.in-Ok.marked.state c.in-Ok.marked.mask (subst (HasMarked c.args.n names body marks) c.in-Some.ensures c.loop-line.invariant) g)
+    (marked_more c.args.n names body marks line left c.in-Ok.marked.state c.in-Ok.marked.mask
+    (subst (HasMarked c.args.n names body marks) c.in-Some.ensures c.loop-line.invariant) g)

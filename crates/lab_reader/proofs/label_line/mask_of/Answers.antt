@@ -10,7 +10,8 @@ pub loop-label-preserved : goal.loop-label-preserved
 loop-label-preserved c =
     masked_more c.args.names.now (bytes_of c.args.labels)
     (bytes_of c.next.new.self) c.in-Some.label.bytes.now c.loop-label.mask c.in_ok-place.place c.requires
-    (subst (HasMasked c.args.names.now (bytes_of c.args.labels) c.loop-label.mask) (ap bytes_of c.in-Some.ensures.steps) c.loop-label.invariant)
+    (subst (HasMasked c.args.names.now (bytes_of c.args.labels) c.loop-label.mask) (ap bytes_of c.in-Some.ensures.steps)
+    c.loop-label.invariant)
     c.in_ok-place.ensures.0 c.in_ok-place.ensures.1
 
 pub returns : goal.returns

@@ -31,7 +31,8 @@ returns-in_err-marks-clause-fault c =
     let names = c.deref.result.now in
     let declares : Declares lines names body = subst (λ z. Declares lines z body) (sym c.deref.ensures.value) c.in_ok-names.ensures in
     rw (p.1, p.2)
-    (told_weaker (BodyFails n names body) (LabFaultAt text n) (λ number w f. body_faulty n lines (end_line_of text) names body number w declares f) c.in_err-marks.field-0.0
+    (told_weaker (BodyFails n names body) (LabFaultAt text n)
+    (λ number w f. body_faulty n lines (end_line_of text) names body number w declares f) c.in_err-marks.field-0.0
     c.in_err-marks.ensures)
 
 pub returns-clause-value : goal.returns-clause-value

@@ -5,14 +5,24 @@ use Rattle.model_core.proofs.model.row_of.Goals as goal
 
 pub slice_bounds-result-count : goal.slice_bounds-result-count
 slice_bounds-result-count c =
-    omega
-    (arith, c.requires.begins c.args.s (omega arith), c.requires.begins (c.args.s + 1) c.requires.within, below-mono (λ (r : Rate). r.from) c.args.s c.args.rates.now)
+    omega (
+      arith,
+      c.requires.begins c.args.s (omega arith),
+      c.requires.begins (c.args.s + 1) c.requires.within,
+      below-mono (λ (r : Rate). r.from)
+          c.args.s c.args.rates.now,
+    )
 
 pub slice_bounds-result-start : goal.slice_bounds-result-start
 slice_bounds-result-start c =
     let start : get_or c.args.starts.now c.args.s 0 ≤ get_or c.args.starts.now (c.args.s + 1) 0 =
-    omega
-    (arith, c.requires.begins c.args.s (omega arith), c.requires.begins (c.args.s + 1) c.requires.within, below-mono (λ (r : Rate). r.from) c.args.s c.args.rates.now)
+    omega (
+      arith,
+      c.requires.begins c.args.s (omega arith),
+      c.requires.begins (c.args.s + 1) c.requires.within,
+      below-mono (λ (r : Rate). r.from)
+          c.args.s c.args.rates.now,
+    )
     in
     search rules
 

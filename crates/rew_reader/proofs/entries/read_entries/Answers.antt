@@ -29,7 +29,8 @@ returns-in-Err-clause-fault c =
     let known = c.loop-line.invariant in
     rw c.at.ensures
     (failing n rows c.in-Some.line.number c.in-Err.what
-    (next_fails (reward_lines n) state_number rows (word_lines_in c.loop-line.rest) (word_lines_in c.next_filled.new.lines) entries (row_of_line c.in-Some.line) c.in-Err.what
+    (next_fails (reward_lines n) state_number rows (word_lines_in c.loop-line.rest) (word_lines_in c.next_filled.new.lines) entries
+    (row_of_line c.in-Some.line) c.in-Err.what
     known.read known.once c.in-Some.ensures (c.in-Err.ensures.fault (entries_of state_number entries))))
 
 pub index-requires : goal.index-requires
@@ -51,7 +52,8 @@ returns-then-index-clause-fault c =
     let repeats : RepeatsKey (reward_lines n) (entries_of state_number entries) row =
     record { entry = entry_of state_number e; is = c.in-Ok.ensures.entry.is; earlier = known.marks.marked e.key marked } in
     rw c.at-then-index.ensures
-    (next_fails (reward_lines n) state_number rows (word_lines_in c.loop-line.rest) (word_lines_in c.next_filled.new.lines) entries row Repeated
+    (next_fails (reward_lines n) state_number rows (word_lines_in c.loop-line.rest) (word_lines_in c.next_filled.new.lines) entries row
+    Repeated
     known.read known.once c.in-Some.ensures repeats)
 
 pub index_mut-requires : goal.index_mut-requires
@@ -74,7 +76,8 @@ loop-line-preserved c =
     let unmarked = get_or_default marks e.key false c.index.result.now within ∙ sym c.index.ensures ∙ c.if-index.false in
     record {
       read = rw c.in_ok-push.ensures
-          (read_more (reward_lines n) state_number (word_lines_of c.args.bytes.now) (word_lines_in c.loop-line.rest) (word_lines_in c.next_filled.new.lines) entries
+          (read_more (reward_lines n) state_number (word_lines_of c.args.bytes.now) (word_lines_in c.loop-line.rest)
+          (word_lines_in c.next_filled.new.lines) entries
           (row_of_line c.in-Some.line) e known.read c.in-Some.ensures c.in-Ok.ensures.entry);
       once = rw c.in_ok-push.ensures (once-more entries e known.once (known.marks.unmarked e.key state unmarked));
       marks = rw c.in_ok-push.ensures (marks-more n entries marks e state known.marks);

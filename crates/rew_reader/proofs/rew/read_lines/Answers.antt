@@ -21,7 +21,8 @@ first_large-requires-clause-decimals c =
 pub first_large-requires-clause-scale : goal.first_large-requires-clause-scale
 first_large-requires-clause-scale c =
     rw (c.scale_of-scale.ensures, c.deref.ensures.value)
-    (small_scale (reward_lines c.args.n) state_number (word_lines_of c.args.bytes.now) c.in_ok-entries.entries.items c.in_ok-entries.ensures.read)
+    (small_scale (reward_lines c.args.n) state_number (word_lines_of c.args.bytes.now) c.in_ok-entries.entries.items
+    c.in_ok-entries.ensures.read)
 
 pub returns-in-Some-clause-fault : goal.returns-in-Some-clause-fault
 returns-in-Some-clause-fault c =
@@ -30,7 +31,8 @@ returns-in-Some-clause-fault c =
     let first = subst (λ z. IsFirstLarge c.scale_of-scale.result z c.in-Some.place) c.deref-2.ensures.value c.in-Some.ensures in
     let line = ap (λ (e : EntryLine ℕ). e.line) c.index.ensures in
     rw (c.at.ensures, line)
-    (line_large c.args.n c.scale_of-scale.result c.in-Some.place (word_lines_of c.args.bytes.now) es c.index.result.now c.in_ok-entries.ensures.read scale first)
+    (line_large c.args.n c.scale_of-scale.result c.in-Some.place (word_lines_of c.args.bytes.now) es c.index.result.now
+    c.in_ok-entries.ensures.read scale first)
 
 pub rewards_of-requires-clause-states : goal.rewards_of-requires-clause-states
 rewards_of-requires-clause-states c =
@@ -44,12 +46,14 @@ rewards_of-requires-clause-decimals c =
 pub rewards_of-requires-clause-scale : goal.rewards_of-requires-clause-scale
 rewards_of-requires-clause-scale c =
     rw (c.scale_of-scale.ensures, c.deref.ensures.value)
-    (small_scale (reward_lines c.args.n) state_number (word_lines_of c.args.bytes.now) c.in_ok-entries.entries.items c.in_ok-entries.ensures.read)
+    (small_scale (reward_lines c.args.n) state_number (word_lines_of c.args.bytes.now) c.in_ok-entries.entries.items
+    c.in_ok-entries.ensures.read)
 
 pub new-requires : goal.new-requires
 new-requires c =
     is_rew c.args.n c.scale_of-scale.result (word_lines_of c.args.bytes.now) c.in_ok-entries.entries.items c.in_ok-rewards.rewards.items
-    (made c.args.n c.scale_of-scale.result (word_lines_of c.args.bytes.now) c.in_ok-entries.entries.items c.deref.result.now c.deref-2.result.now c.deref-3.result.now
+    (made c.args.n c.scale_of-scale.result (word_lines_of c.args.bytes.now) c.in_ok-entries.entries.items c.deref.result.now
+    c.deref-2.result.now c.deref-3.result.now
     c.in_ok-rewards.rewards.items c.in_ok-entries.ensures.read c.deref.ensures.value c.deref-2.ensures.value c.deref-3.ensures.value
     c.scale_of-scale.ensures c.in_default.ensures c.in_ok-rewards.ensures)
 
@@ -57,7 +61,8 @@ pub returns-clause-value : goal.returns-clause-value
 returns-clause-value c =
     rw c.new.ensures
     (says_rew c.args.n c.scale_of-scale.result (word_lines_of c.args.bytes.now) c.in_ok-entries.entries.items c.in_ok-rewards.rewards.items
-    (made c.args.n c.scale_of-scale.result (word_lines_of c.args.bytes.now) c.in_ok-entries.entries.items c.deref.result.now c.deref-2.result.now c.deref-3.result.now
+    (made c.args.n c.scale_of-scale.result (word_lines_of c.args.bytes.now) c.in_ok-entries.entries.items c.deref.result.now
+    c.deref-2.result.now c.deref-3.result.now
     c.in_ok-rewards.rewards.items c.in_ok-entries.ensures.read c.deref.ensures.value c.deref-2.ensures.value c.deref-3.ensures.value
     c.scale_of-scale.ensures c.in_default.ensures c.in_ok-rewards.ensures))
 

@@ -20,7 +20,9 @@ quotient_bracket-requires-clause-at_most_one c =
     let inside : s < c.args.states = omega (arith, c.loop-state-test.true) in
     let weights = c.args.weights.now in
     let tables = c.args.tables.now in
-    let low = read_weighted Down c.args.states (suc c.args.last) s c.index.result.now c.deref.result.now weights.low (map (λ v. v.items) c.deref-2.result.now) tables.low c.in_ok-low.low.items
+    let low =
+    read_weighted Down c.args.states (suc c.args.last) s c.index.result.now c.deref.result.now weights.low
+    (map (λ v. v.items) c.deref-2.result.now) tables.low c.in_ok-low.low.items
     c.in_ok-low.ensures
     (c.deref.ensures.value ∙ ap (λ w. w.low) c.weights.view_is)
     (ap (map (λ v. v.items)) c.deref-2.ensures.value ∙ ap (λ t. t.low) c.tables.view_is)
@@ -34,13 +36,16 @@ quotient_bracket-requires-clause-small c =
     let inside : s < c.args.states = omega (arith, c.loop-state-test.true) in
     let weights = c.args.weights.now in
     let tables = c.args.tables.now in
-    let high = read_weighted Up c.args.states (suc c.args.last) s c.index-in-loop-state.result.now c.deref-3.result.now weights.high (map (λ v. v.items) c.deref-4.result.now) tables.high c.in_ok-high.high.items
+    let high =
+    read_weighted Up c.args.states (suc c.args.last) s c.index-in-loop-state.result.now c.deref-3.result.now weights.high
+    (map (λ v. v.items) c.deref-4.result.now) tables.high c.in_ok-high.high.items
     c.in_ok-high.ensures
     (c.deref-3.ensures.value ∙ ap (λ w. w.high) c.weights.view_is)
     (ap (map (λ v. v.items)) c.deref-4.ensures.value ∙ ap (λ t. t.high) c.tables.view_is)
     inside c.index-in-loop-state.ensures in
     let top : c.index-in-loop-state.result.now ≤ suc c.args.last * 2 ^ 110 =
-    rw high (weighted_sum_le Up c.args.last c.args.states s weights.high tables.high c.requires.high c.requires.sound.weights_sound.at_most_one inside) in
+    rw high (weighted_sum_le Up c.args.last c.args.states s weights.high tables.high c.requires.high
+    c.requires.sound.weights_sound.at_most_one inside) in
     omega (arith, top, c.requires.few)
 
 pub loop-state-preserved : goal.loop-state-preserved
@@ -49,12 +54,16 @@ loop-state-preserved c =
     let inside : s < c.args.states = omega (arith, c.loop-state-test.true) in
     let weights = c.args.weights.now in
     let tables = c.args.tables.now in
-    let low = read_weighted Down c.args.states (suc c.args.last) s c.index.result.now c.deref.result.now weights.low (map (λ v. v.items) c.deref-2.result.now) tables.low c.in_ok-low.low.items
+    let low =
+    read_weighted Down c.args.states (suc c.args.last) s c.index.result.now c.deref.result.now weights.low
+    (map (λ v. v.items) c.deref-2.result.now) tables.low c.in_ok-low.low.items
     c.in_ok-low.ensures
     (c.deref.ensures.value ∙ ap (λ w. w.low) c.weights.view_is)
     (ap (map (λ v. v.items)) c.deref-2.ensures.value ∙ ap (λ t. t.low) c.tables.view_is)
     inside c.index.ensures in
-    let high = read_weighted Up c.args.states (suc c.args.last) s c.index-in-loop-state.result.now c.deref-3.result.now weights.high (map (λ v. v.items) c.deref-4.result.now) tables.high c.in_ok-high.high.items
+    let high =
+    read_weighted Up c.args.states (suc c.args.last) s c.index-in-loop-state.result.now c.deref-3.result.now weights.high
+    (map (λ v. v.items) c.deref-4.result.now) tables.high c.in_ok-high.high.items
     c.in_ok-high.ensures
     (c.deref-3.ensures.value ∙ ap (λ w. w.high) c.weights.view_is)
     (ap (map (λ v. v.items)) c.deref-4.ensures.value ∙ ap (λ t. t.high) c.tables.view_is)
@@ -64,4 +73,5 @@ loop-state-preserved c =
     (c.quotient_bracket.ensures.lower ∙ quotient_same _ _ _ _ low c.weight_sums-sums.ensures.high)
     (c.quotient_bracket.ensures.upper
     ∙ ap (λ z. min one_word (div_ceil z c.weight_sums-sums.result.low + 2 ^ (62 - c.args.bits))) high
-    ∙ ap (λ z. min one_word (div_ceil (weighted_sum Up (suc c.args.last) weights.high (column tables.high s)) z + 2 ^ (62 - c.args.bits))) c.weight_sums-sums.ensures.low)
+    ∙ ap (λ z. min one_word (div_ceil (weighted_sum Up (suc c.args.last) weights.high (column tables.high s)) z + 2 ^ (62 - c.args.bits)))
+    c.weight_sums-sums.ensures.low)

@@ -26,7 +26,13 @@ ends_answer-requires c =
     record {
       probabilities =
           subst AreProbabilities (sym c.point.ensures)
-          (record { lower = within; upper = within; positive = omega (arith, c.max-exit.ensures); fits = omega (arith, c.max-exit.ensures, c.exit.ensures.bound) });
+          (record {
+            lower = within;
+            upper = within;
+            positive = omega (arith, c.max-exit.ensures);
+            fits = omega
+                (arith, c.max-exit.ensures, c.exit.ensures.bound);
+          });
     }
 
 pub loop-s-preserved : goal.loop-s-preserved
@@ -35,10 +41,13 @@ loop-s-preserved c =
     record {
       answers =
           c.in_ok-push.ensures.items
-          ∙ answers_more (chain_of model.n model.rates) (has_label model.marks c.args.label) (comparison_of c.args.op) (decimal_fraction c.args.threshold.c c.args.threshold.x)
-          c.loop-s.s _ _ _ _ c.loop-s.invariant.answers c.rate_into-into.ensures.value (omega (arith, c.max-exit.ensures, c.exit.ensures.value)) (
+          ∙ answers_more (chain_of model.n model.rates) (has_label model.marks c.args.label) (comparison_of c.args.op)
+          (decimal_fraction c.args.threshold.c c.args.threshold.x)
+          c.loop-s.s _ _ _ _ c.loop-s.invariant.answers c.rate_into-into.ensures.value
+          (omega (arith, c.max-exit.ensures, c.exit.ensures.value)) (
           c.ends_answer.ensures.answer
-          ∙ ap (λ e. bracket_answer (comparison_of c.args.op) (ends_bracket e) (decimal_fraction c.args.threshold.c c.args.threshold.x)) c.point.ensures);
+          ∙ ap (λ e. bracket_answer (comparison_of c.args.op) (ends_bracket e) (decimal_fraction c.args.threshold.c c.args.threshold.x))
+          c.point.ensures);
       printable = rw c.in_ok-push.ensures.items (All-push IsPrintable _ _ c.loop-s.invariant.printable c.ends_answer.ensures.printable);
       counted = omega (arith, ap length c.in_ok-push.ensures.items, length-append {A = StateAnswer}, c.loop-s.invariant.counted);
     }

@@ -10,7 +10,8 @@ use Rattle.session.proofs.nested_verdict.check_next.Given as goal
 
 abbrev pub invariant-loop-s : goal.invariant-loop-s
 invariant-loop-s l = record {
-  answers : l.answers.items ≡ first_answers (chain_of l.model.n l.model.rates) (has_label l.model.marks l.label) (comparison_of l.op) (decimal_fraction l.threshold.c l.threshold.x) l.s;
+  answers : l.answers.items ≡ first_answers (chain_of l.model.n l.model.rates) (has_label l.model.marks l.label) (comparison_of l.op)
+      (decimal_fraction l.threshold.c l.threshold.x) l.s;
   printable : All IsPrintable l.answers.items;
   counted : length l.answers.items ≡ l.s;
 }

@@ -6,18 +6,21 @@ pub returns-in_default : goal.returns-in_default
 returns-in_default c = λ f h.
     let p = front_of_formula c.args.name.now c.args.bytes.now f h in
     c.in_default.ensures p.threshold p.path
-    (threshold_after c.args.bytes.now c.in_ok-take_literal.field-0.now c.in_ok-op.text.now p.path p.op c.in_ok-op.op p.threshold p.front c.in_ok-take_literal.ensures c.in_ok-op.ensures)
+    (threshold_after c.args.bytes.now c.in_ok-take_literal.field-0.now c.in_ok-op.text.now p.path p.op c.in_ok-op.op p.threshold p.front
+    c.in_ok-take_literal.ensures c.in_ok-op.ensures)
 
 pub returns-then-is_next_end : goal.returns-then-is_next_end
 returns-then-is_next_end c =
     next_of_path c.args.name.now c.args.bytes.now _ c.in_ok-op.op _
-    (front_from c.args.bytes.now c.in_ok-take_literal.field-0.now c.in_ok-op.text.now _ c.in_ok-op.op _ c.in_ok-take_literal.ensures c.in_ok-op.ensures c.in-Some.ensures)
+    (front_from c.args.bytes.now c.in_ok-take_literal.field-0.now c.in_ok-op.text.now _ c.in_ok-op.op _ c.in_ok-take_literal.ensures
+    c.in_ok-op.ensures c.in-Some.ensures)
     (c.is_next_end.ensures.0 c.if-is_next_end.true)
 
 pub returns-in_err-time : goal.returns-in_err-time
 returns-in_err-time c = rw c.from_residual-in_err-time.ensures (λ f h.
     no_formula c.args.name.now c.args.bytes.now _ c.in_ok-op.op _ f
-    (front_from c.args.bytes.now c.in_ok-take_literal.field-0.now c.in_ok-op.text.now _ c.in_ok-op.op _ c.in_ok-take_literal.ensures c.in_ok-op.ensures c.in-Some.ensures)
+    (front_from c.args.bytes.now c.in_ok-take_literal.field-0.now c.in_ok-op.text.now _ c.in_ok-op.op _ c.in_ok-take_literal.ensures
+    c.in_ok-op.ensures c.in-Some.ensures)
     (λ next. both_ways c.is_next_end.result c.if-is_next_end.false (c.is_next_end.ensures.1 next))
     c.in_err-time.ensures
     h)
@@ -25,5 +28,6 @@ returns-in_err-time c = rw c.from_residual-in_err-time.ensures (λ f h.
 pub returns : goal.returns
 returns c =
     until_of_path c.args.name.now c.args.bytes.now _ c.in_ok-op.op _ c.in_ok-time.time
-    (front_from c.args.bytes.now c.in_ok-take_literal.field-0.now c.in_ok-op.text.now _ c.in_ok-op.op _ c.in_ok-take_literal.ensures c.in_ok-op.ensures c.in-Some.ensures)
+    (front_from c.args.bytes.now c.in_ok-take_literal.field-0.now c.in_ok-op.text.now _ c.in_ok-op.op _ c.in_ok-take_literal.ensures
+    c.in_ok-op.ensures c.in-Some.ensures)
     c.in_ok-time.ensures

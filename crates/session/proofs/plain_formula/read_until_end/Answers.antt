@@ -22,7 +22,8 @@ returns-then-is_name_end c =
     let name = c.args.name.now in
     let text = c.in_ok-take_literal.field-0.now in
     path_of_time name c.args.text.now text _ c.in_ok-take_literal.ensures
-    (time_from name text _ c.in_ok-take_literal-2.field-0.now _ c.in-Some.ensures c.in_ok-take_literal-2.ensures (c.is_name_end.ensures.0 c.if-is_name_end.true))
+    (time_from name text _ c.in_ok-take_literal-2.field-0.now _ c.in-Some.ensures c.in_ok-take_literal-2.ensures
+    (c.is_name_end.ensures.0 c.if-is_name_end.true))
 
 pub returns-else-is_name_end : goal.returns-else-is_name_end
 returns-else-is_name_end c = λ t h.

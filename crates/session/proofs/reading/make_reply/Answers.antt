@@ -14,11 +14,14 @@ returns-clause-reply c =
     ∙ get_or_default names label c.index-labels-label.result [] c.requires in
     elim c.match-formula.branch [
       | in-Next+in_ok-check_next-in-Next w ↦ (
-        c.in_ok-formula.ensures ∙ ap (λ n. formula_text n c.match-formula.formula) name ∙ ap (formula_text (name_at names label)) (w.formula-is ∙ sym w.in-Next.is),
+        c.in_ok-formula.ensures ∙ ap (λ n. formula_text n c.match-formula.formula) name ∙ ap (formula_text (name_at names label))
+            (w.formula-is ∙ sym w.in-Next.is),
         rw w.in-Next.is (rw w.horizon-is (rw w.in_ok-check_next-in-Next.ensures.answers refl)),
       )
       | in-Until+in-Ok+in_ok-states-in-Ok w ↦ (
-        c.in_ok-formula.ensures ∙ ap (λ n. formula_text n c.match-formula.formula) name ∙ ap (formula_text (name_at names label)) (w.formula-is ∙ sym w.in-Until.is),
-        rw w.in-Until.is (rw w.horizon-is (rw w.in-Ok.ensures.refusal (rw w.in_ok-states-in-Ok.ensures.answers (rw w.in-Ok.ensures.last (rw w.in-Ok.ensures.load refl))))),
+        c.in_ok-formula.ensures ∙ ap (λ n. formula_text n c.match-formula.formula) name ∙ ap (formula_text (name_at names label))
+            (w.formula-is ∙ sym w.in-Until.is),
+        rw w.in-Until.is (rw w.horizon-is
+            (rw w.in-Ok.ensures.refusal (rw w.in_ok-states-in-Ok.ensures.answers (rw w.in-Ok.ensures.last (rw w.in-Ok.ensures.load refl))))),
       )
     ]

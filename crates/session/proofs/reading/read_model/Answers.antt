@@ -18,7 +18,8 @@ returns-in_err-rew-clause-asked g c =
     (λ p q. asks_err _ _ _ _ c.from_residual-in_err-rew.ensures.0
     (asks_after _ (c.args.command.tra.now ∷ c.args.command.lab.now ∷ []) (rew_name (name_in c.args.command.rew)) _ _ p q))
     (told_both _ _ _ _ _ c.in_ok-tra.ensures.files
-    (λ p q. asks_then _ (c.args.command.tra.now ∷ []) (c.args.command.lab.now ∷ []) _ _ p q) c.in_ok-tra.ensures.asked c.in_ok-lab.ensures.asked)
+    (λ p q. asks_then _ (c.args.command.tra.now ∷ []) (c.args.command.lab.now ∷ []) _ _ p q) c.in_ok-tra.ensures.asked
+    c.in_ok-lab.ensures.asked)
     c.in_err-rew.ensures.asked
 
 pub build-requires-clause-rewards : goal.build-requires-clause-rewards
@@ -34,7 +35,8 @@ returns-in_err-model-clause-asked g c =
     (λ p q. asks_err _ _ _ _ c.from_residual-in_err-model.ensures.0
     (asks_whole _ _ _ (asks_then _ (c.args.command.tra.now ∷ c.args.command.lab.now ∷ []) (rew_name (name_in c.args.command.rew)) _ _ p q)))
     (told_both _ _ _ _ _ c.in_ok-tra.ensures.files
-    (λ p q. asks_then _ (c.args.command.tra.now ∷ []) (c.args.command.lab.now ∷ []) _ _ p q) c.in_ok-tra.ensures.asked c.in_ok-lab.ensures.asked)
+    (λ p q. asks_then _ (c.args.command.tra.now ∷ []) (c.args.command.lab.now ∷ []) _ _ p q) c.in_ok-tra.ensures.asked
+    c.in_ok-lab.ensures.asked)
     c.in_ok-rew.ensures.asked
 
 pub returns-clause-model : goal.returns-clause-model
@@ -44,9 +46,11 @@ returns-clause-model g c = record {
     lab = c.in-Ok-2.lab;
     rew = c.in-Ok-3.rew;
     takes_tra = takes_tra _ _ c.in-Ok.tra _ c.in-Ok.is c.in_ok-tra.ensures.tra;
-    takes_lab = takes_lab _ _ _ _ c.in-Ok.tra c.in-Ok-2.lab _ c.in_ok-tra.ensures.files c.n.ensures.value c.in-Ok-2.is c.in_ok-lab.ensures.lab;
+    takes_lab =
+        takes_lab _ _ _ _ c.in-Ok.tra c.in-Ok-2.lab _ c.in_ok-tra.ensures.files c.n.ensures.value c.in-Ok-2.is c.in_ok-lab.ensures.lab;
     takes_rew =
-        takes_rew _ _ _ _ c.in-Ok.tra c.in-Ok-3.rew _ (c.in_ok-lab.ensures.files ∙ c.in_ok-tra.ensures.files) c.n-2.ensures.value c.in-Ok-3.is
+        takes_rew _ _ _ _ c.in-Ok.tra c.in-Ok-3.rew _ (c.in_ok-lab.ensures.files ∙ c.in_ok-tra.ensures.files) c.n-2.ensures.value
+        c.in-Ok-3.is
         c.in_ok-rew.ensures.rew;
   };
   built = c.in_ok-model.ensures.built;
@@ -57,5 +61,6 @@ returns-clause-asked g c =
     told_both _ _ _ _ _ (c.in_ok-lab.ensures.files ∙ c.in_ok-tra.ensures.files)
     (λ p q. asks_then _ (c.args.command.tra.now ∷ c.args.command.lab.now ∷ []) (rew_name (name_in c.args.command.rew)) _ _ p q)
     (told_both _ _ _ _ _ c.in_ok-tra.ensures.files
-    (λ p q. asks_then _ (c.args.command.tra.now ∷ []) (c.args.command.lab.now ∷ []) _ _ p q) c.in_ok-tra.ensures.asked c.in_ok-lab.ensures.asked)
+    (λ p q. asks_then _ (c.args.command.tra.now ∷ []) (c.args.command.lab.now ∷ []) _ _ p q) c.in_ok-tra.ensures.asked
+    c.in_ok-lab.ensures.asked)
     c.in_ok-rew.ensures.asked

@@ -9,7 +9,8 @@ returns-in_err-write_formula_line-clause-front g c =
 pub returns-in_err-write_horizon_line-clause-front :
     goal.returns-in_err-write_horizon_line-clause-front
 returns-in_err-write_horizon_line-clause-front g c =
-    front_of_horizon c.args.formula.now c.args.horizon c.args.states.now _ _ _ c.in_ok-write_formula_line.ensures.ok c.in_err-write_horizon_line.ensures.front
+    front_of_horizon c.args.formula.now c.args.horizon c.args.states.now _ _ _ c.in_ok-write_formula_line.ensures.ok
+    c.in_err-write_horizon_line.ensures.front
 
 pub returns-clause-front : goal.returns-clause-front
 returns-clause-front g c =

@@ -10,7 +10,8 @@ pub returns-clause-told : goal.returns-clause-told
 returns-clause-told g c = λ now outcome theirs.
     let same : c.serve.new.files.files ≡ c.args.files.now.files = cc in
     memory_or c.serve.result _ _
-    (no_read (command_of (map string_bytes c.args.words.now)) c.args.files.now.files c.serve.new.files.files c.args.files.now.asked c.serve.new.files.asked
+    (no_read (command_of (map string_bytes c.args.words.now)) c.args.files.now.files c.serve.new.files.files c.args.files.now.asked
+    c.serve.new.files.asked
     c.requires.named same c.requires.fresh c.serve.result c.serve.ensures.asked c.serve.ensures.read)
     (λ e. omega (arith, c.serve.ensures.write.risen e))
     (told_bytes _ _ _) (c.serve.ensures.told _ _ _ now outcome refl refl refl theirs)

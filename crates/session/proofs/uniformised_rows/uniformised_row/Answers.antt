@@ -14,14 +14,18 @@ loop-transition-preserved c =
     elim c.if-transition-s.branch [
       | then-transition-s w ↦ record {
         entries =
-            one_transition c.args.s c.loop-transition.share c.if-transition-s.share c.loop-transition.transition-index c.row-row.result.now _ _ _ _ (omega arith) c.loop-transition.invariant.entries
-            c.in_ok-push_transition.ensures (kept_share c.args.s c.loop-transition.share c.if-transition-s.share _ w.if-transition-s.true w.share-is);
+            one_transition c.args.s c.loop-transition.share c.if-transition-s.share c.loop-transition.transition-index c.row-row.result.now
+            _ _ _ _ (omega arith) c.loop-transition.invariant.entries
+            c.in_ok-push_transition.ensures
+            (kept_share c.args.s c.loop-transition.share c.if-transition-s.share _ w.if-transition-s.true w.share-is);
         share = omega (arith, w.share-is, c.loop-transition.invariant.share);
       }
       | else-transition-s w ↦ record {
         entries =
-            one_transition c.args.s c.loop-transition.share c.if-transition-s.share c.loop-transition.transition-index c.row-row.result.now _ _ _ _ (omega arith) c.loop-transition.invariant.entries
-            c.in_ok-push_transition.ensures (spent_share c.args.s c.loop-transition.share c.if-transition-s.share _ w.if-transition-s.false w.share-is);
+            one_transition c.args.s c.loop-transition.share c.if-transition-s.share c.loop-transition.transition-index c.row-row.result.now
+            _ _ _ _ (omega arith) c.loop-transition.invariant.entries
+            c.in_ok-push_transition.ensures
+            (spent_share c.args.s c.loop-transition.share c.if-transition-s.share _ w.if-transition-s.false w.share-is);
         share = omega (arith, w.share-is);
       }
     ]
@@ -29,12 +33,18 @@ loop-transition-preserved c =
 pub returns-clause-sound : goal.returns-clause-sound
 returns-clause-sound c =
     let rs = c.row-row.result.now in
-    let are = whole_row c.args.s c.loop-transition.share c.loop-transition.transition-index rs _ _ _ (omega arith) c.loop-transition.invariant.entries c.in_ok-push_share.ensures in
-    row_sound c.args.model.now c.args.s c.args.uniform rs c.push_share.new.entries.items c.requires.state c.requires.value c.row-row.ensures.rates_into are
+    let are =
+    whole_row c.args.s c.loop-transition.share c.loop-transition.transition-index rs _ _ _ (omega arith)
+    c.loop-transition.invariant.entries c.in_ok-push_share.ensures in
+    row_sound c.args.model.now c.args.s c.args.uniform rs c.push_share.new.entries.items c.requires.state c.requires.value
+    c.row-row.ensures.rates_into are
     c.requires.bound c.row-row.ensures.ascending c.row-row.ensures.transitions
 
 pub returns-clause-numbers : goal.returns-clause-numbers
 returns-clause-numbers c =
     let rs = c.row-row.result.now in
-    let are = whole_row c.args.s c.loop-transition.share c.loop-transition.transition-index rs _ _ _ (omega arith) c.loop-transition.invariant.entries c.in_ok-push_share.ensures in
-    row_numbers c.args.model.now c.args.s c.args.uniform rs c.push_share.new.entries.items c.requires.state c.requires.value c.row-row.ensures.rates_into are
+    let are =
+    whole_row c.args.s c.loop-transition.share c.loop-transition.transition-index rs _ _ _ (omega arith)
+    c.loop-transition.invariant.entries c.in_ok-push_share.ensures in
+    row_numbers c.args.model.now c.args.s c.args.uniform rs c.push_share.new.entries.items c.requires.state c.requires.value
+    c.row-row.ensures.rates_into are

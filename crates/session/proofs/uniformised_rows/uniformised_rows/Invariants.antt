@@ -11,5 +11,6 @@ invariant-loop-s l = record {
   states : length l.rows.items ≡ l.s;
   sound : All (IsSoundRow l.model.n) l.rows.items;
   divisors : All (λ (row : RowLists). row.den ≡ l.uniform) l.rows.items;
-  numbers : (s t : ℕ) → s < l.s → t < l.model.n → number_to (row_at l.rows.items s).entries t ≡ (uniformised (model_chain l.model)).weight s t;
+  numbers : (s t : ℕ) → s < l.s → t < l.model.n
+      → number_to (row_at l.rows.items s).entries t ≡ (uniformised (model_chain l.model)).weight s t;
 }

@@ -21,6 +21,7 @@ returns-clause-plan c =
     c.in_ok-start_upper.ensures ∙ ap (map (λ holds. cond holds one_word 0)) (c.deref.ensures.value ∙ set) in
     rw set (rw may (rw must_live (rw may_live (rw reach (rw start
     (until_plan (model_chain model) c.args.bound.now.load has model.n c.args.bound.now.last c.in_ok-rows.rows.items c.in_ok-weights.field-0
-    (omega (arith, c.n-n.ensures.some, c.n-n.ensures.value)) (omega (arith, c.n-n.ensures.few, c.n-n.ensures.value)) c.in_ok-rows.ensures.states refl
+    (omega (arith, c.n-n.ensures.some, c.n-n.ensures.value)) (omega (arith, c.n-n.ensures.few, c.n-n.ensures.value))
+    c.in_ok-rows.ensures.states refl
     c.in_ok-rows.ensures.sound c.in_ok-rows.ensures.stand c.requires.last c.requires.bound.few
     c.in_ok-weights.ensures.divisor c.in_ok-weights.ensures.of_load c.in_ok-weights.ensures.sound))))))

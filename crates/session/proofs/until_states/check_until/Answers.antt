@@ -11,7 +11,9 @@ use Rattle.session.proofs.until_states.check_until.Goals as goal
 pub answer_mixes-requires-clause-each : goal.answer_mixes-requires-clause-each
 answer_mixes-requires-clause-each c =
     let goals : c.deref.result.now ≡ c.args.plan.now.frame.sets.goal_must =
-    c.deref.ensures.value ∙ (ap (λ s. s.goal_must) c.sets.view_is ∙ (ap (λ f. f.sets.goal_must) c.frame.view_is ∙ ap (λ p. p.frame.sets.goal_must) c.plan.view_is)) in
+    c.deref.ensures.value
+    ∙ (ap (λ s. s.goal_must) c.sets.view_is
+    ∙ (ap (λ f. f.sets.goal_must) c.frame.view_is ∙ ap (λ p. p.frame.sets.goal_must) c.plan.view_is)) in
     let are = c.in_ok-mixes.ensures.mixes in
     omega (
       arith,
@@ -26,7 +28,9 @@ returns-clause-answers c = λ chain load goal is.
     let by = comparison_of c.args.op in
     let q = decimal_fraction c.args.threshold.c c.args.threshold.x in
     let goals : c.deref.result.now ≡ c.args.plan.now.frame.sets.goal_must =
-    c.deref.ensures.value ∙ (ap (λ s. s.goal_must) c.sets.view_is ∙ (ap (λ f. f.sets.goal_must) c.frame.view_is ∙ ap (λ p. p.frame.sets.goal_must) c.plan.view_is)) in
+    c.deref.ensures.value
+    ∙ (ap (λ s. s.goal_must) c.sets.view_is
+    ∙ (ap (λ f. f.sets.goal_must) c.frame.view_is ∙ ap (λ p. p.frame.sets.goal_must) c.plan.view_is)) in
     IfOk-weaker c.answer_mixes.result _ (λ states. states.items ≡ until_answers chain load goal by q)
     (λ states are. are
     ∙ ap (λ g. settled_answers g c.deref-2.result.now by q) goals
@@ -39,13 +43,16 @@ returns-clause-few c =
     let by = comparison_of c.args.op in
     let q = decimal_fraction c.args.threshold.c c.args.threshold.x in
     let goals : c.deref.result.now ≡ c.args.plan.now.frame.sets.goal_must =
-    c.deref.ensures.value ∙ (ap (λ s. s.goal_must) c.sets.view_is ∙ (ap (λ f. f.sets.goal_must) c.frame.view_is ∙ ap (λ p. p.frame.sets.goal_must) c.plan.view_is)) in
+    c.deref.ensures.value
+    ∙ (ap (λ s. s.goal_must) c.sets.view_is
+    ∙ (ap (λ f. f.sets.goal_must) c.frame.view_is ∙ ap (λ p. p.frame.sets.goal_must) c.plan.view_is)) in
     let frame = c.requires.plan.3.sound.frame in
     IfOk-weaker c.answer_mixes.result _ (λ states. length states.items ≤ 65536)
     (λ states are. omega (
       arith,
       ap length are,
-      length-map-range_with_len (λ s. words_answer by (settled_words c.deref.result.now c.deref-2.result.now s) q) 0 (length c.deref.result.now),
+      length-map-range_with_len (λ s. words_answer by (settled_words c.deref.result.now c.deref-2.result.now s) q) 0
+          (length c.deref.result.now),
       ap length goals,
       frame.sets.goal_must_states,
       frame.few,

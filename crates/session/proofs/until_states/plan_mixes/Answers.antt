@@ -9,11 +9,13 @@ use Rattle.session.proofs.until_states.plan_mixes.Goals as goal
 
 pub mixed_brackets-requires-clause-low : goal.mixed_brackets-requires-clause-low
 mixed_brackets-requires-clause-low c =
-    read_low_words c.args.plan.now _ c.len-states.result c.in_ok-tables.tables c.requires.sound c.in_ok-tables.ensures c.plan.view_is (omega (arith, c.len-states.ensures))
+    read_low_words c.args.plan.now _ c.len-states.result c.in_ok-tables.tables c.requires.sound c.in_ok-tables.ensures c.plan.view_is
+    (omega (arith, c.len-states.ensures))
 
 pub mixed_brackets-requires-clause-high : goal.mixed_brackets-requires-clause-high
 mixed_brackets-requires-clause-high c =
-    read_high_words c.args.plan.now _ c.len-states.result c.in_ok-tables.tables c.requires.sound c.in_ok-tables.ensures c.plan.view_is (omega (arith, c.len-states.ensures))
+    read_high_words c.args.plan.now _ c.len-states.result c.in_ok-tables.tables c.requires.sound c.in_ok-tables.ensures c.plan.view_is
+    (omega (arith, c.len-states.ensures))
 
 pub returns-clause-mixes : goal.returns-clause-mixes
 returns-clause-mixes c =
@@ -40,7 +42,8 @@ returns-clause-words c =
     IfOk-weaker c.mixed_brackets.result _ (λ mixes. All (λ mix. mix.lower ≤ 2 ^ 62) mixes.items)
     (λ mixes are.
     lower_words c.plan.inside.layers c.in-Poisson.bits c.len-states.result c.in-Poisson.weights tables mixes.items are mix.weights_sound
-    (read_low_words c.args.plan.now _ c.len-states.result tables c.requires.sound c.in_ok-tables.ensures c.plan.view_is (omega (arith, c.len-states.ensures))))
+    (read_low_words c.args.plan.now _ c.len-states.result tables c.requires.sound c.in_ok-tables.ensures c.plan.view_is
+    (omega (arith, c.len-states.ensures))))
     c.mixed_brackets.ensures
 
 pub returns-clause-upper_words : goal.returns-clause-upper_words

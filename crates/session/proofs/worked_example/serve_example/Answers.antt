@@ -7,7 +7,8 @@ use Rattle.session.proofs.WorkedExample.{outcome, is_outcome, text_is}
 use Rattle.session.proofs.worked_example.serve_example.Goals as goal
 
 -- the outcome is that of objects that hold the same
-outcome_of_same : (words : List (List ℕ)) (files : List Pair) (left : List ℕ) → words ≡ example_words → files ≡ example_files → left ≡ example_formula
+outcome_of_same : (words : List (List ℕ)) (files : List Pair) (left : List ℕ) → words ≡ example_words → files ≡ example_files
+    → left ≡ example_formula
     → IsOutcome words (Some files) (Some left) (Some []) outcome
 outcome_of_same words files left e f h = rw e (rw f (rw h is_outcome))
 

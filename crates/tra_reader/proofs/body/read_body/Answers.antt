@@ -8,7 +8,12 @@ use Rattle.tra_reader.proofs.body.read_body.Goals as goal
 
 pub loop-init : goal.loop-init
 loop-init c =
-    record { read = rw c.in_ok-entries.ensures.items (read_none (transition_lines c.args.head.states) pair_of (word_lines_in c.args.lines.now)); counted = ap length c.in_ok-entries.ensures.items }
+    record {
+      read = rw c.in_ok-entries.ensures.items
+          (read_none (transition_lines c.args.head.states) pair_of (word_lines_in c.args.lines.now));
+      counted =
+          ap length c.in_ok-entries.ensures.items;
+    }
 
 pub loop-preserved : goal.loop-preserved
 loop-preserved c =
@@ -17,7 +22,8 @@ loop-preserved c =
     record {
       read =
           rw c.in_ok-push-in-Ok.ensures.items
-          (read_more (transition_lines c.args.head.states) pair_of (word_lines_in c.args.lines.now) (word_lines_in c.loop.lines) (word_lines_in c.next_entry.new.lines)
+          (read_more (transition_lines c.args.head.states) pair_of (word_lines_in c.args.lines.now) (word_lines_in c.loop.lines)
+          (word_lines_in c.next_entry.new.lines)
           c.loop.entries.items next.line c.in-Ok.entry known.read next.first next.is);
       counted = rw c.in_ok-push-in-Ok.ensures.items (omega (arith, length_push c.loop.entries.items c.in-Ok.entry, known.counted));
     }

@@ -11,7 +11,8 @@ pub returns-then-from-eq0-clause-fault : goal.returns-then-from-eq0-clause-fault
 returns-then-from-eq0-clause-fault c = λ entries.
     let from = c.in-Some-Some.ensures in
     let to = c.in-Some-Some.ensures' in
-    let outside : (1 ≤ c.in-Some-Some.from) × (c.in-Some-Some.from ≤ c.args.n) × (1 ≤ c.in-Some-Some.to) × (c.in-Some-Some.to ≤ c.args.n) → ⊥ = λ h. elim c.then-from-eq0.branch [
+    let outside : (1 ≤ c.in-Some-Some.from) × (c.in-Some-Some.from ≤ c.args.n) × (1 ≤ c.in-Some-Some.to) × (c.in-Some-Some.to ≤ c.args.n)
+    → ⊥ = λ h. elim c.then-from-eq0.branch [
       | then-from-eq0-via-then-from-eq0 w ↦ omega (arith, c.from-most.ensures)
       | then-from-eq0-via-else-from-eq0+then-from-most w ↦ omega (arith, c.from-most.ensures)
       | then-from-eq0-via-else-from-eq0+else-from-most+then-to-eq0 w ↦ omega (arith, c.from-most.ensures)

@@ -10,7 +10,8 @@ pub returns-then-sum-from : goal.returns-then-sum-from
 returns-then-sum-from c =
     sums-past c.args.scale c.args.n c.args.entries.now c.loop-place.place no_entry c.loop-place.sums.items
     (c.from.result + c.value_at.result)
-    (next_sum c.args.scale c.args.n c.args.entries.now c.loop-place.place no_entry c.loop-place.sums.items c.from-from.result c.from.result c.index.result.now c.value_at.result
+    (next_sum c.args.scale c.args.n c.args.entries.now c.loop-place.place no_entry c.loop-place.sums.items c.from-from.result c.from.result
+    c.index.result.now c.value_at.result
     c.loop-place-test.true
     (c.requires.states c.loop-place.place no_entry c.loop-place-test.true) c.loop-place.invariant c.from-from.ensures
     (c.from.ensures ∙ c.index.ensures)
@@ -21,8 +22,10 @@ pub loop-place-preserved : goal.loop-place-preserved
 loop-place-preserved c =
     let small : c.from.result + c.value_at.result < AMOUNT_LIMIT = omega (arith, c.if-sum-from.false, c.from-in-loop-place.ensures) in
     rw c.from-from.ensures
-    (sums-more c.args.scale c.args.n c.args.entries.now c.loop-place.place no_entry c.loop-place.sums.items (c.from.result + c.value_at.result)
-    (next_sum c.args.scale c.args.n c.args.entries.now c.loop-place.place no_entry c.loop-place.sums.items c.from-from.result c.from.result c.index.result.now c.value_at.result
+    (sums-more c.args.scale c.args.n c.args.entries.now c.loop-place.place no_entry c.loop-place.sums.items
+    (c.from.result + c.value_at.result)
+    (next_sum c.args.scale c.args.n c.args.entries.now c.loop-place.place no_entry c.loop-place.sums.items c.from-from.result c.from.result
+    c.index.result.now c.value_at.result
     c.loop-place-test.true
     (c.requires.states c.loop-place.place no_entry c.loop-place-test.true) c.loop-place.invariant c.from-from.ensures
     (c.from.ensures ∙ c.index.ensures)
@@ -30,4 +33,5 @@ loop-place-preserved c =
 
 pub returns : goal.returns
 returns c =
-    sums-all c.args.scale c.args.n c.loop-place.place c.args.entries.now c.loop-place.sums.items c.loop-place-test.false c.loop-place.invariant
+    sums-all c.args.scale c.args.n c.loop-place.place c.args.entries.now c.loop-place.sums.items c.loop-place-test.false
+    c.loop-place.invariant

@@ -34,7 +34,8 @@ loop-entry-preserved c =
           ∙ (w.in_ok-push.ensures.items
           ∙ (ap (λ z. c.loop-entry.rates.items ++ z ∷ []) pushed
           ∙
-          (ap (λ z. z ++ kept_rate scale e ∷ []) c.loop-entry.invariant ∙ sym (chain-kept scale entries i no_entry within (lt-ltb 0 (rate_at scale e) some)))))
+          (ap (λ z. z ++ kept_rate scale e ∷ []) c.loop-entry.invariant ∙ sym
+          (chain-kept scale entries i no_entry within (lt-ltb 0 (rate_at scale e) some)))))
       | else-rate-gt0 w ↦
           let none : rate_at scale e ≤ 0 = omega (arith, w.if-rate-gt0.false) in
           ap (λ v. v.items) w.rates-is

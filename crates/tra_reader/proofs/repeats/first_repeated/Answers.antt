@@ -17,4 +17,5 @@ returns c =
     let numbers = map number_of c.args.entries.now in
     let few : length numbers ≤ MOST_TRANSITIONS = omega (arith, length-map c.args.entries.now number_of) in
     let least : IsLeastMark sorted c.least_mark.result = rw c.deref.ensures.value at c.least_mark.ensures in
-    first-repeats numbers c.in_ok-keys.keys.items sorted few c.in_ok-keys.ensures c.sort_unstable.ensures.permutation c.sort_unstable.ensures.sorted c.least_mark.result least
+    first-repeats numbers c.in_ok-keys.keys.items sorted few c.in_ok-keys.ensures c.sort_unstable.ensures.permutation
+    c.sort_unstable.ensures.sorted c.least_mark.result least

@@ -55,7 +55,8 @@ new-requires c =
     let scale = c.scale_of-scale.result in
     let short : c.scale_of-scale.result ≤ 18 = rw c.scale_of-scale.ensures (few_decimals c.args.n es c.requires.kept) in
     is_tra c.args.n scale es c.in_ok-rates.rates.items c.requires.some c.requires.few short c.requires.kept c.requires.once
-    (subst (λ z. MatchOption z (AreWithin scale (entries_of pair_of es)) (IsFirstLarge scale es)) c.in_default.is c.in_ok-place.ensures) c.in_ok-rates.ensures
+    (subst (λ z. MatchOption z (AreWithin scale (entries_of pair_of es)) (IsFirstLarge scale es)) c.in_default.is c.in_ok-place.ensures)
+    c.in_ok-rates.ensures
 
 pub returns-clause-value : goal.returns-clause-value
 returns-clause-value c =
@@ -64,7 +65,8 @@ returns-clause-value c =
     let within =
     subst (λ z. MatchOption z (AreWithin scale (entries_of pair_of es)) (IsFirstLarge scale es)) c.in_default.is c.in_ok-place.ensures
     in
-    let made : IsChainOf c.args.n es (record { n = c.args.n; scale = c.scale_of-scale.result; rates = c.in_ok-rates.rates.items }) = record {
+    let made : IsChainOf c.args.n es (record { n = c.args.n; scale = c.scale_of-scale.result; rates = c.in_ok-rates.rates.items }) =
+    record {
       states = refl;
       scale = c.scale_of-scale.ensures ∙ same_scale (transition_lines c.args.n) pair_of es;
       rates = c.in_ok-rates.ensures;

@@ -12,7 +12,8 @@ returns-then-place-len c =
     let place = c.in_ok-place.place in
     let first = subst (λ z. IsFirstRepeated z place) c.deref.ensures.value c.in_ok-place.ensures in
     rw (c.at.ensures, ap (λ (e : EntryLine Pair). e.line) c.index.ensures)
-    (repeated c.args.body.now place first (word_lines_of c.args.bytes.now) (end_line_of c.args.bytes.now) c.index.result.now (omega (arith, c.len.ensures, c.if-place-len.true)))
+    (repeated c.args.body.now place first (word_lines_of c.args.bytes.now) (end_line_of c.args.bytes.now) c.index.result.now
+    (omega (arith, c.len.ensures, c.if-place-len.true)))
 
 pub returns-in-AllRead : goal.returns-in-AllRead
 returns-in-AllRead c =
@@ -23,7 +24,8 @@ returns-in-AllRead c =
 pub returns-in-Missing : goal.returns-in-Missing
 returns-in-Missing c =
     rw (c.at-in-Missing.ensures, c.end_line.ensures)
-    (missing c.args.body.now c.in_ok-place.place (subst (λ z. IsFirstRepeated z c.in_ok-place.place) c.deref.ensures.value c.in_ok-place.ensures)
+    (missing c.args.body.now c.in_ok-place.place
+    (subst (λ z. IsFirstRepeated z c.in_ok-place.place) c.deref.ensures.value c.in_ok-place.ensures)
     (omega (arith, c.len.ensures, c.if-place-len.false)) (word_lines_of c.args.bytes.now) (end_line_of c.args.bytes.now) c.in-Missing.is)
 
 pub returns-in-Further : goal.returns-in-Further
@@ -35,6 +37,7 @@ returns-in-Further c =
 pub returns-in-Failing : goal.returns-in-Failing
 returns-in-Failing c =
     rw c.at-in-Failing.ensures
-    (failing c.args.body.now c.in_ok-place.place (subst (λ z. IsFirstRepeated z c.in_ok-place.place) c.deref.ensures.value c.in_ok-place.ensures)
+    (failing c.args.body.now c.in_ok-place.place
+    (subst (λ z. IsFirstRepeated z c.in_ok-place.place) c.deref.ensures.value c.in_ok-place.ensures)
     (omega (arith, c.len.ensures, c.if-place-len.false)) (word_lines_of c.args.bytes.now) (end_line_of c.args.bytes.now)
     c.in-Failing.line c.in-Failing.what c.in-Failing.is)

@@ -12,9 +12,12 @@ chain_of-requires-clause-kept c =
 
 pub returns-clause-value : goal.returns-clause-value
 returns-clause-value c =
-    let made = text_made c.args.bytes.now c.lines-lines.result (word_lines_in c.read_head.new.lines) c.in_ok-head.head.states c.in_ok-head.head.transitions c.in_ok-body.body.entries.items
+    let made =
+    text_made c.args.bytes.now c.lines-lines.result (word_lines_in c.read_head.new.lines) c.in_ok-head.head.states
+    c.in_ok-head.head.transitions c.in_ok-body.body.entries.items
     c.deref.result.now c.chain_of.result c.lines-lines.ensures.computed c.in_ok-head.ensures.head
-    (c.in_ok-check_body.ensures c.in_ok-head.head.states c.in_ok-head.head.transitions (word_lines_in c.read_head.new.lines) c.in_ok-body.ensures) c.deref.ensures.value
+    (c.in_ok-check_body.ensures c.in_ok-head.head.states c.in_ok-head.head.transitions (word_lines_in c.read_head.new.lines)
+    c.in_ok-body.ensures) c.deref.ensures.value
     c.chain_of.ensures.value c.chain_of.ensures.fault in
     made.0
 
@@ -23,5 +26,6 @@ returns-clause-fault c = (
     text_made c.args.bytes.now c.lines-lines.result
     (word_lines_in c.read_head.new.lines) c.in_ok-head.head.states c.in_ok-head.head.transitions c.in_ok-body.body.entries.items
     c.deref.result.now c.chain_of.result c.lines-lines.ensures.computed c.in_ok-head.ensures.head
-    (c.in_ok-check_body.ensures c.in_ok-head.head.states c.in_ok-head.head.transitions (word_lines_in c.read_head.new.lines) c.in_ok-body.ensures) c.deref.ensures.value
+    (c.in_ok-check_body.ensures c.in_ok-head.head.states c.in_ok-head.head.transitions (word_lines_in c.read_head.new.lines)
+    c.in_ok-body.ensures) c.deref.ensures.value
     c.chain_of.ensures.value c.chain_of.ensures.fault).1

@@ -7,7 +7,8 @@ use Rattle.model_core.proofs.model.Model.rate.Goals as goal
 
 pub returns-in-Ok : goal.returns-in-Ok
 returns-in-Ok c =
-    found_rate _ _ c.args.s c.args.t _ _ c.self.view_is c.self.invariant.lists c.deref.ensures.value c.pair_number-number.ensures _ _ c.ranges.t.fits c.in-Ok.ensures.bound
+    found_rate _ _ c.args.s c.args.t _ _ c.self.view_is c.self.invariant.lists c.deref.ensures.value c.pair_number-number.ensures _ _
+    c.ranges.t.fits c.in-Ok.ensures.bound
     (c.in-Ok.ensures.position (λ (r : Rate). pair_number r.from r.to) (answers_always _ _ _ (λ f a r g called. search rules)))
     c.index.ensures
 

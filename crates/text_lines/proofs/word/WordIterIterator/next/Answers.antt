@@ -14,13 +14,17 @@ pub returns-clause-steps : goal.returns-clause-steps
 returns-clause-steps c =
     let found = c.in_ok-blanks.ensures in
     sym c.self.view_is
-    ∙ words_from-next c.self.inside.column c.in_ok-blanks.blanks c.self.inside.rest.now c.split_word.result.0.now c.split_word.result.1.now found.0 found.1 found.2 (sym (take_rest c.self.inside.rest.now c.in_ok-blanks.blanks) ∙ c.split_word.ensures.text) c.split_word.ensures.solid c.split_word.ensures.longest
+    ∙ words_from-next c.self.inside.column c.in_ok-blanks.blanks c.self.inside.rest.now c.split_word.result.0.now c.split_word.result.1.now
+    found.0 found.1 found.2 (sym (take_rest c.self.inside.rest.now c.in_ok-blanks.blanks) ∙ c.split_word.ensures.text)
+    c.split_word.ensures.solid c.split_word.ensures.longest
 
 pub returns-clause-goes : goal.returns-clause-goes
 returns-clause-goes c =
     let found = c.in_ok-blanks.ensures in
     let steps =
     sym c.self.view_is
-    ∙ words_from-next c.self.inside.column c.in_ok-blanks.blanks c.self.inside.rest.now c.split_word.result.0.now c.split_word.result.1.now found.0 found.1 found.2 (sym (take_rest c.self.inside.rest.now c.in_ok-blanks.blanks) ∙ c.split_word.ensures.text) c.split_word.ensures.solid c.split_word.ensures.longest in
+    ∙ words_from-next c.self.inside.column c.in_ok-blanks.blanks c.self.inside.rest.now c.split_word.result.0.now c.split_word.result.1.now
+    found.0 found.1 found.2 (sym (take_rest c.self.inside.rest.now c.in_ok-blanks.blanks) ∙ c.split_word.ensures.text)
+    c.split_word.ensures.solid c.split_word.ensures.longest in
     let fewer = ap length steps in
     search rules
