@@ -181,49 +181,32 @@ fn lines_are_as_many_as_the_head_says(rt: HostRuntime) {
 #[test]
 fn each_line_is_two_states_and_a_rate(rt: HostRuntime) {
     let alloc = rt.alloc();
-    for line in [
-        b"1 2".as_slice(),
-        b"1 2 3 4",
-        b"a 2 1",
-        b"1 -2 1",
-        b"0 +1 x",
-        b"1 2.0 1",
-        b"1 2 1\r 3",
+    let not_number = FileWhat::Number(NumberFault::NotNumber);
+    for (line, what) in [
+        (b"1 2".as_slice(), FileWhat::Word),
+        (b"1 2 3 4", FileWhat::Word),
+        (b"a 2 1", FileWhat::Word),
+        (b"1 -2 1", FileWhat::Word),
+        (b"0 +1 x", FileWhat::Word),
+        (b"1 2.0 1", FileWhat::Word),
+        (b"1 2 1\r 3", FileWhat::Word),
+        (b"0 1 1", FileWhat::StateRange),
+        (b"1 0 1", FileWhat::StateRange),
+        (b"3 1 1", FileWhat::StateRange),
+        (b"1 3 x", FileWhat::StateRange),
+        (b"1 99999999999999999999 1", FileWhat::StateRange),
+        (b"1 2 x", not_number),
+        (b"1 2 -1", not_number),
+        (b"1 2 1\r2", not_number),
+        (b"2 1 1e", not_number),
+        (b"1 2 .", not_number),
+        (b"1 2 1.2.3", not_number),
+        (b"1 2 nan", not_number),
+        (b"1 2 1e-19", FileWhat::Number(NumberFault::TooFine)),
+        (b"1 2 1e18", FileWhat::Number(NumberFault::TooBig)),
     ] {
-        check_line(&rt, alloc, line, FileWhat::Word);
+        check_line(&rt, alloc, line, what);
     }
-    for line in [
-        b"0 1 1".as_slice(),
-        b"1 0 1",
-        b"3 1 1",
-        b"1 3 x",
-        b"1 99999999999999999999 1",
-    ] {
-        check_line(&rt, alloc, line, FileWhat::StateRange);
-    }
-    for line in [
-        b"1 2 x".as_slice(),
-        b"1 2 -1",
-        b"1 2 1\r2",
-        b"2 1 1e",
-        b"1 2 .",
-        b"1 2 1.2.3",
-        b"1 2 nan",
-    ] {
-        check_line(&rt, alloc, line, FileWhat::Number(NumberFault::NotNumber));
-    }
-    check_line(
-        &rt,
-        alloc,
-        b"1 2 1e-19",
-        FileWhat::Number(NumberFault::TooFine),
-    );
-    check_line(
-        &rt,
-        alloc,
-        b"1 2 1e18",
-        FileWhat::Number(NumberFault::TooBig),
-    );
 }
 
 // Between two right lines of transitions of two states, this line is refused for this.

@@ -11,21 +11,15 @@ overflow_sub-share c =
 
 pub loop-transition-preserved : goal.loop-transition-preserved
 loop-transition-preserved c =
+    let more = one_transition c.args.s c.loop-transition.share c.if-transition-s.share c.loop-transition.transition-index c.row-row.result.now
+    _ _ _ _ (omega arith) c.loop-transition.invariant.entries c.in_ok-push_transition.ensures in
     elim c.if-transition-s.branch [
       | then-transition-s w ↦ record {
-        entries =
-            one_transition c.args.s c.loop-transition.share c.if-transition-s.share c.loop-transition.transition-index c.row-row.result.now
-            _ _ _ _ (omega arith) c.loop-transition.invariant.entries
-            c.in_ok-push_transition.ensures
-            (kept_share c.args.s c.loop-transition.share c.if-transition-s.share _ w.if-transition-s.true w.share-is);
+        entries = more (kept_share c.args.s c.loop-transition.share c.if-transition-s.share _ w.if-transition-s.true w.share-is);
         share = omega (arith, w.share-is, c.loop-transition.invariant.share);
       }
       | else-transition-s w ↦ record {
-        entries =
-            one_transition c.args.s c.loop-transition.share c.if-transition-s.share c.loop-transition.transition-index c.row-row.result.now
-            _ _ _ _ (omega arith) c.loop-transition.invariant.entries
-            c.in_ok-push_transition.ensures
-            (spent_share c.args.s c.loop-transition.share c.if-transition-s.share _ w.if-transition-s.false w.share-is);
+        entries = more (spent_share c.args.s c.loop-transition.share c.if-transition-s.share _ w.if-transition-s.false w.share-is);
         share = omega (arith, w.share-is);
       }
     ]
