@@ -17,8 +17,7 @@ use std::marker;
 use text_lines::Name;
 
 /// A chain with labels and perhaps rewards. States are numbered from 0, and so are labels. (Labelled chains: Baier,
-/// Haverkort, Hermanns, Katoen, "Model-checking algorithms for continuous-time Markov chains", IEEE TSE 29(6), 2003,
-/// section 2)
+/// Haverkort, Hermanns, Katoen, "Model-checking algorithms for continuous-time Markov chains", IEEE TSE 29(6), 2003)
 #[derive(Debug, Drop)]
 pub struct Model {
     n: u32,
