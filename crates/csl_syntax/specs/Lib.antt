@@ -1,0 +1,8 @@
+pub mod TokenText
+pub mod Tokens
+pub mod Tree
+pub mod Grammar
+pub mod FormulaText
+pub mod FormulaFault
+pub mod CanonicalText
+pub mod Laws
