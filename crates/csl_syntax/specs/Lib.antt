@@ -6,3 +6,5 @@ pub mod FormulaText
 pub mod FormulaFault
 pub mod CanonicalText
 pub mod Laws
+-- what the parser's own functions say
+pub mod Machine
