@@ -2,3 +2,5 @@ pub mod Complete
 pub mod Sound
 pub mod Endings
 pub mod Wider
+pub mod Stops
+pub mod Follows

@@ -34,7 +34,7 @@ IsExpected (stopped what.Expected) = ⊥
 IsExpected (stopped w) = Unit {0}
 
 -- with one more room
-abbrev raised : State → State
+abbrev pub raised : State → State
 raised (want d ls o a n) = want (suc d) ls o a n
 raised (have d ls o a f) = have (suc d) ls o a f
 raised (more p d ls o a n) = more p (suc d) ls o a n
@@ -93,7 +93,7 @@ raised-zero_then : (z : ℕ) (p : Phase) (d : ℕ) (ls : List Layer) (o a : Opti
 raised-zero_then zero p d ls o a n = refl
 raised-zero_then (suc z) p d ls o a n = refl
 
-going_is_free : (q : State) → IsGoing q → IsFree q
+pub going_is_free : (q : State) → IsGoing q → IsFree q
 going_is_free (want d ls o a n) h = tt
 going_is_free (have d ls o a f) h = tt
 going_is_free (more p d ls o a n) h = tt
