@@ -4,3 +4,4 @@ pub mod Endings
 pub mod Wider
 pub mod Stops
 pub mod Follows
+pub mod TokenFaults
