@@ -5,3 +5,4 @@ pub mod Wider
 pub mod Stops
 pub mod Follows
 pub mod TokenFaults
+pub mod Runs

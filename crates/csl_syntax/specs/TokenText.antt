@@ -1,7 +1,7 @@
 -- The texts of tokens: words, numbers and symbols. At its place a token is the longest text that fits.
-use Rattle.std.specs.Prelude.{◌≡◌, ℕ, ◌<◌, ◌≤◌, ◌⊎◌, Bool, false, ◌&&◌, ◌||◌, ◌==◌, IsTrue, Option, List, [], ◌∷◌, ◌++◌, length, All, Contains, codes}
+use Rattle.std.specs.Prelude.{◌≡◌, ℕ, ◌<◌, ◌≤◌, ◌⊎◌, Bool, false, ◌&&◌, ◌||◌, ◌==◌, IsTrue, Option, List, [], ◌∷◌, ◌++◌, length, codes, bytes_eq}
 use Rattle.std.specs.Char.{is_ascii_digit}
-use Rattle.std.specs.List.{list_all}
+use Rattle.std.specs.List.{list_all, list_any}
 use Rattle.decimal_text.specs.Spelling.{ExponentSpelling, exponent_text, IsExponent}
 use Rattle.text_lines.specs.Name.{begins_name, continues_name}
 
@@ -20,7 +20,7 @@ pub record IsNumberText (text : List ℕ) : Type 0 where
   pub exponent : Option ExponentSpelling
   pub spelled : text ≡ run ++ exponent_text exponent
   pub some : 0 < length run
-  pub digits_and_points : All (λ b. IsTrue (is_digit_or_point b)) run
+  pub digits_and_points : IsTrue (list_all is_digit_or_point run)
   pub written : IsExponent exponent
 
 -- the symbols
@@ -29,9 +29,13 @@ symbols =
     codes "&&" ∷ codes "||" ∷ codes "!" ∷ codes "(" ∷ codes ")" ∷ codes "{" ∷ codes "}" ∷ codes "[" ∷ codes "]"
     ∷ codes "," ∷ codes "~" ∷ codes "<=" ∷ codes ">=" ∷ codes "<" ∷ codes ">" ∷ []
 
+-- one of these
+abbrev pub is_symbol : List ℕ → Bool
+is_symbol text = list_any (bytes_eq text) symbols
+
 -- the text of some token
 abbrev pub IsTokenText : List ℕ → Type 0
-IsTokenText text = IsTrue (is_word text) ⊎ (IsNumberText text ⊎ Contains symbols text)
+IsTokenText text = IsTrue (is_word text) ⊎ (IsNumberText text ⊎ IsTrue (is_symbol text))
 
 -- at the head of the bytes stands a token of this text, no longer one fits there, and after it come the others
 pub record IsTokenBefore (bytes text after : List ℕ) : Type 0 where
