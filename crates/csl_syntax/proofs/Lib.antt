@@ -6,3 +6,4 @@ pub mod Stops
 pub mod Follows
 pub mod TokenFaults
 pub mod Runs
+pub mod LongestTokens
