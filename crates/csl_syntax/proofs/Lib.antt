@@ -7,3 +7,4 @@ pub mod Follows
 pub mod TokenFaults
 pub mod Runs
 pub mod LongestTokens
+pub mod OneToken
