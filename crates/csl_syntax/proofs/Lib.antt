@@ -8,3 +8,4 @@ pub mod TokenFaults
 pub mod Runs
 pub mod LongestTokens
 pub mod OneToken
+pub mod Scanning
