@@ -9,3 +9,4 @@ pub mod Runs
 pub mod LongestTokens
 pub mod OneToken
 pub mod Scanning
+pub mod Exponents

@@ -8,8 +8,9 @@ use Rattle.std.specs.Cmp.Lexicographic.{same_text}
 use Rattle.decimal_text.specs.Spelling.{Sign, NoSign, Plus, Minus, sign_text, ExponentSpelling, exponent_text, IsExponent, IsWritten}
 use Rattle.text_lines.specs.Name.{begins_name, continues_name}
 use Rattle.text_lines.specs.Words.{is_blank}
+use Rattle.csl_syntax.specs.Scanner.{EndsRun, HasNoExponent}
 use Rattle.csl_syntax.specs.TokenText.{is_word, is_digit_or_point, IsNumberText, symbols, is_symbol, IsTokenText, IsTokenBefore}
-use Rattle.csl_syntax.proofs.Runs.{true_is_false, both_ways, and_left, and_right, and_both, same_first, same_rest, nothing_first, EndsRun, split_same, word_no_number, word_no_blank, number_no_blank, begins_continues, digits_are}
+use Rattle.csl_syntax.proofs.Runs.{true_is_false, both_ways, and_left, and_right, and_both, same_first, same_rest, nothing_first, split_same, word_no_number, word_no_blank, number_no_blank, begins_continues, digits_are}
 
 -- what a text says of its first byte, by its kind
 pub record StartsBy (P : ℕ → Type 0) (text : List ℕ) : Type 0 where
@@ -159,7 +160,7 @@ symbol_before bytes w a e h s = record {
 
 -- after the run of digits and points stands this exponent or none, a longest one
 abbrev pub EndsNumber : Option ExponentSpelling → List ℕ → Type 0
-EndsNumber None a = EndsRun is_digit_or_point a × ((x : ExponentSpelling) (k : List ℕ) → IsWritten x → a ≢ exponent_text (Some x) ++ k)
+EndsNumber None a = EndsRun is_digit_or_point a × HasNoExponent a
 EndsNumber (Some x) a = EndsRun is_ascii_digit a
 
 letter_no_run : (b : ℕ) → (b ≡ 101) ⊎ (b ≡ 69) → is_digit_or_point b ≡ false

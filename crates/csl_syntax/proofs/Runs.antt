@@ -7,6 +7,7 @@ use Rattle.std.specs.Str.Parse.{AllDigits}
 use Rattle.decimal_text.proofs.FixedDigits.{digit_of_digit_value}
 use Rattle.text_lines.specs.Name.{begins_name, continues_name}
 use Rattle.text_lines.specs.Words.{is_blank}
+use Rattle.csl_syntax.specs.Scanner.{EndsRun}
 use Rattle.csl_syntax.specs.TokenText.{is_digit_or_point}
 
 pub true_is_false : true ≡ false → ⊥
@@ -36,10 +37,6 @@ same_rest a b s r e = cc
 
 pub nothing_first : (b : ℕ) (s : List ℕ) → [] ≡ b ∷ s → ⊥
 nothing_first b s e = cc
-
--- the first of the bytes, if there is one, doesn't pass
-abbrev pub EndsRun : (ℕ → Bool) → List ℕ → Type 0
-EndsRun p s = (b : ℕ) (more : List ℕ) → s ≡ b ∷ more → p b ≡ false
 
 -- two runs at the head of the same bytes, the first of them a longest one
 module _ (p : ℕ → Bool) where

@@ -7,4 +7,5 @@ pub mod FormulaFault
 pub mod CanonicalText
 pub mod Laws
 -- what the parser's own functions say
+pub mod Scanner
 pub mod Machine
