@@ -10,3 +10,4 @@ pub mod LongestTokens
 pub mod OneToken
 pub mod Scanning
 pub mod Exponents
+pub mod Fronts

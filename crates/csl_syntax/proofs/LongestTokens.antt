@@ -50,7 +50,7 @@ pub number_starts : (text : List ℕ) → IsNumberText text → StartsBy InRun t
 number_starts text h = subst (StartsBy InRun) (sym h.spelled) (run_starts h.run (exponent_text h.exponent) h.some h.digits_and_points)
 
 -- what holds of each symbol
-abbrev AllOf : (List ℕ → Type 0) → List (List ℕ) → Type 0
+abbrev pub AllOf : (List ℕ → Type 0) → List (List ℕ) → Type 0
 AllOf P [] = Unit {0}
 AllOf P (x ∷ xs) = P x × AllOf P xs
 
@@ -59,7 +59,7 @@ one_by : (P : List ℕ → Type 0) (text x : List ℕ) (xs : List (List ℕ)) (b
 one_by P text x xs true e h k f = subst P (sym (same_text text x (sym e))) k
 one_by P text x xs false e h k f = f h
 
-one_of : (P : List ℕ → Type 0) (text : List ℕ) (xs : List (List ℕ)) → list_any (bytes_eq text) xs ≡ true → AllOf P xs → P text
+pub one_of : (P : List ℕ → Type 0) (text : List ℕ) (xs : List (List ℕ)) → list_any (bytes_eq text) xs ≡ true → AllOf P xs → P text
 one_of P text [] h k = absurd (true_is_false (sym h))
 one_of P text (x ∷ xs) h (k, ks) = one_by P text x xs (bytes_eq text x) refl h k (λ g. one_of P text xs g ks)
 
