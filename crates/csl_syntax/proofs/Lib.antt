@@ -11,3 +11,4 @@ pub mod OneToken
 pub mod Scanning
 pub mod Exponents
 pub mod Fronts
+pub mod Outcomes
