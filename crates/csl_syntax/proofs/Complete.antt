@@ -1,5 +1,5 @@
 -- What the grammar derives, the machine reads.
-use Rattle.std.proofs.Common.{◌≡◌, ℕ, zero, suc, ◌<◌, ◌≤◌, ◌*◌, ◌^◌, Bool, true, List, [], ◌∷◌, Option, Some, None, refl, ◌∙◌, ap, nat_lt, nat_le, arith}
+use Rattle.std.proofs.Common.{◌≡◌, ℕ, suc, ◌≤◌, ◌*◌, ◌^◌, List, [], ◌∷◌, Option, Some, None, refl, ◌∙◌, ap, arith}
 use Rattle.std.proofs.lemmas.Bool.{lt-ltb, le-leb}
 use Rattle.std.proofs.Math.Nat.{mul-le-mul_right, le_trans}
 use Rattle.decimal_text.specs.DecimalNumber.{DecimalNumber}
@@ -70,9 +70,9 @@ module _ (N T : ℕ) where
       let e = reads x (layer (until_left op q) o a n ∷ ls) in
       let e2 = reads y (layer (until_right op q f b) o a n ∷ ls) in
       judged_so q h op d ls o a n s ∙ (first x d ls o a n op q f).0 ∙ e.4
-        ∙ ap (λ v. run N T (more (u_start op q v) d ls o a n) m) e.3
-        ∙ bounds w (first y) d ls o a n op q f
-        ∙ e2.4 ∙ ap (λ v. run N T (have (back n (suc d)) ls o a (negated n (until op q f b v))) r) e2.3
+      ∙ ap (λ v. run N T (more (u_start op q v) d ls o a n) m) e.3
+      ∙ bounds w (first y) d ls o a n op q f
+      ∙ e2.4 ∙ ap (λ v. run N T (have (back n (suc d)) ls o a (negated n (until op q f b v))) r) e2.3
   reads (a_not x) = λ ls o a n. reads x ls o a (suc n)
   reads (an_atom x) = reads x
   reads (an_and {d} {f} {g} {s} {m} {r} x y) = λ ls o.

@@ -1,18 +1,16 @@
 -- Where the machine goes on, some formula goes on so; and where it is stopped, none does within the limits.
-use Rattle.std.proofs.Common.{◌≡◌, ℕ, zero, suc, ◌≤◌, ◌*◌, ◌^◌, List, [], ◌∷◌, ◌++◌, Option, Some, None, refl, sym, ◌∙◌, ap, subst, arith}
+use Rattle.std.proofs.Common.{◌≡◌, ℕ, suc, ◌≤◌, ◌*◌, ◌^◌, List, [], ◌∷◌, ◌++◌, Option, Some, None, refl, sym, ◌∙◌, ap, subst, arith}
 use Rattle.std.proofs.lemmas.Bool.{le-leb}
 use Rattle.decimal_text.specs.DecimalNumber.{DecimalNumber}
 use Rattle.csl_syntax.specs.declared.fault.FormulaWhat.{FormulaWhat}
-use Rattle.csl_syntax.specs.declared.fault.FormulaWhat.TheVariants as what
 use Rattle.csl_syntax.specs.declared.token.Token.{Token}
-use Rattle.csl_syntax.specs.declared.token.Token.TheVariants.{Truth, Falsehood, Name, ProbabilityWord, NextWord, UntilWord, Bang, AndAnd, OrOr, OpenParen, CloseParen, OpenBrace, CloseBrace, OpenBracket, CloseBracket, Comma, Tilde, Compare, Number}
+use Rattle.csl_syntax.specs.declared.token.Token.TheVariants.{Truth, NextWord, UntilWord, CloseParen, OpenBrace, CloseBrace, OpenBracket, CloseBracket, Comma, Compare, Number}
 use Rattle.csl_syntax.specs.declared.formula.Op.{Op}
 use Rattle.csl_syntax.specs.declared.formula.Op.TheVariants.{Less}
-use Rattle.csl_syntax.specs.declared.formula.Bound.{Bound}
 use Rattle.csl_syntax.specs.declared.formula.Bound.TheVariants.{Unbounded, Time, Reward}
-use Rattle.csl_syntax.specs.Tree.{Tree, truth, falsehood, label, negation, conjunction, disjunction, next, until, IsUpTo}
-use Rattle.csl_syntax.specs.Grammar.{Limits, formula, conj, unary, atom, Derives, BeginsWithin, Begins, IsSpelled}
-use Rattle.csl_syntax.specs.Machine.{Layer, Kind, parens, of_next, until_left, until_right, Phase, p_brace, p_op, p_number, p_close, p_bracket, p_path, u_start, u_zero, u_comma, u_limit, u_close, u_any, u_again, v_zero, v_comma, v_limit, v_close, layer, headed, more, named, judged, in_more, in_want, zero_then, closed_as, boxed_as, turned_as, boxed, turned, operand, State, want, have, stopped, start, negated, back, with_both, with_either, closed, bang, opened, step, run, whole_of, whole}
+use Rattle.csl_syntax.specs.Tree.{Tree, truth, next, until}
+use Rattle.csl_syntax.specs.Grammar.{Limits, formula, Derives, BeginsWithin}
+use Rattle.csl_syntax.specs.Machine.{Layer, Kind, parens, of_next, until_left, until_right, Phase, p_brace, p_op, p_number, p_close, p_bracket, p_path, u_start, u_zero, u_comma, u_limit, u_close, u_any, u_again, v_zero, v_comma, v_limit, v_close, layer, more, judged, State, want, have, stopped, start, negated, back, with_both, with_either, step, run, whole}
 use Rattle.csl_syntax.proofs.Sound.{read_is_spelled}
 use Rattle.csl_syntax.proofs.Complete.{spelled_is_read}
 
@@ -72,7 +70,6 @@ module _ (N T : ℕ) where
 
   want_ends : (d : ℕ) (ls : List Layer) (o a : Option Tree) (n : ℕ) → Ends (want d ls o a n)
   want_ends d ls o a n = then (want d ls o a n) Truth (have_ends (back n d) ls o a (negated n truth))
-
 
   close_ends : (op : Op) (q : DecimalNumber) (d : ℕ) (ls : List Layer) (o a : Option Tree) (n : ℕ) → Ends (more (p_close op q) d ls o a n)
   close_ends op q d ls o a n = then _ CloseBrace (then _ OpenBracket (then _ NextWord (want_ends d (layer (of_next op q) o a n ∷ ls) None None 0)))

@@ -1,10 +1,10 @@
 -- Exponents at the head of bytes.
-use Rattle.std.proofs.Common.{◌≡◌, ◌≢◌, ℕ, ◌<◌, ◌⊎◌, inl, inr, Bool, true, false, ◌||◌, ◌==◌, Option, Some, None, List, [], ◌∷◌, ◌++◌, length, refl, sym, ◌∙◌, ap, subst, arith}
+use Rattle.std.proofs.Common.{◌≡◌, ℕ, ◌<◌, ◌⊎◌, inl, inr, true, false, List, [], ◌∷◌, ◌++◌, length, refl, sym, ◌∙◌, ap, subst, arith}
 use Rattle.std.specs.Char.{is_ascii_digit}
 use Rattle.std.specs.List.{list_all}
-use Rattle.decimal_text.specs.Spelling.{Sign, NoSign, Plus, Minus, sign_text, ExponentSpelling, exponent_text, IsWritten}
-use Rattle.csl_syntax.specs.Scanner.{EndsRun, SplitsRun, BeginsWithDigits, BeginsWithExponent, HasNoExponent}
-use Rattle.csl_syntax.proofs.Runs.{both_ways, and_left, same_first, same_rest, nothing_first, digits_are, digits_read}
+use Rattle.decimal_text.specs.Spelling.{Sign, NoSign, Plus, Minus, sign_text}
+use Rattle.csl_syntax.specs.Scanner.{EndsRun, BeginsWithDigits, BeginsWithExponent, HasNoExponent}
+use Rattle.csl_syntax.proofs.Runs.{both_ways, and_left, same_first, same_rest, digits_are, digits_read}
 
 abbrev pub IsLetter : ℕ → Type 0
 IsLetter l = (l ≡ 101) ⊎ (l ≡ 69)
@@ -68,7 +68,7 @@ sign_no_digit s (inr e) = ap is_ascii_digit e
 pub no_signed_exponent : (bytes c : List ℕ) (l s : ℕ) → bytes ≡ l ∷ s ∷ c → IsSignByte s → EndsRun is_ascii_digit c → HasNoExponent bytes
 no_signed_exponent bytes c l s e h g =
     no_exponent bytes (s ∷ c) l e (λ b m f. ap is_ascii_digit (sym (same_first s b c m f)) ∙ sign_no_digit s h)
-      (λ b m k f. subst (EndsRun is_ascii_digit) (same_rest s b c m f) g)
+    (λ b m k f. subst (EndsRun is_ascii_digit) (same_rest s b c m f) g)
 
 -- a letter, and then neither a sign nor digits
 pub no_plain_exponent : (bytes c : List ℕ) (l : ℕ) → bytes ≡ l ∷ c → ((s : ℕ) (m : List ℕ) → c ≡ s ∷ m → ¬ IsSignByte s) → EndsRun is_ascii_digit c → HasNoExponent bytes

@@ -1,13 +1,12 @@
 -- What stands at the head of bytes: a token, a number that is none, or nothing.
-use Rattle.std.proofs.Common.{◌≡◌, ◌≢◌, ℕ, suc, ◌+◌, ◌<◌, ◌≤◌, ◌⊎◌, inl, inr, Bool, true, false, ◌&&◌, ◌||◌, ◌==◌, not, Option, Some, None, List, [], ◌∷◌, ◌++◌, length, refl, sym, ◌∙◌, ap, subst, arith, append_assoc}
-use Rattle.std.specs.Prelude.{IsTrue, codes}
+use Rattle.std.proofs.Common.{◌≡◌, ◌≢◌, ℕ, suc, ◌<◌, ◌≤◌, ◌⊎◌, inl, inr, Bool, true, false, ◌&&◌, ◌==◌, not, Some, None, List, [], ◌∷◌, ◌++◌, length, refl, sym, ◌∙◌, ap, subst, arith, append_assoc}
+use Rattle.std.specs.Prelude.{IsTrue}
 use Rattle.std.specs.Char.{is_ascii_digit}
-use Rattle.std.specs.List.{list_all, list_any}
-use Rattle.std.specs.Str.{bytes_eq}
+use Rattle.std.specs.List.{list_all}
 use Rattle.std.proofs.lemmas.Bool.{eqb-true, eqb-false}
-use Rattle.decimal_text.specs.Spelling.{ExponentSpelling, exponent_text}
+use Rattle.decimal_text.specs.Spelling.{exponent_text}
 use Rattle.decimal_text.proofs.DecimalCases.{WordCase, Writes as IsWritten, Lacks, IsWordCase, some_word_case}
-use Rattle.text_lines.specs.Name.{is_name, is_reserved, reserved_words, begins_name, continues_name}
+use Rattle.text_lines.specs.Name.{is_reserved, reserved_words, begins_name, continues_name}
 use Rattle.text_lines.specs.Words.{is_blank}
 use Rattle.csl_syntax.specs.Scanner.{EndsRun, SplitsRun, BeginsWithDigits, BeginsWithExponent, HasNoExponent}
 use Rattle.csl_syntax.specs.TokenText.{is_word, is_digit_or_point, IsNumberText, symbols, is_symbol, IsTokenText, IsTokenBefore}
@@ -16,8 +15,8 @@ use Rattle.csl_syntax.specs.FormulaFault.{HasNoToken, HasFaultyNumber}
 use Rattle.csl_syntax.specs.declared.formula.Op.TheVariants.{Less, AtMost, More, AtLeast}
 use Rattle.csl_syntax.specs.declared.token.Token.{Token}
 use Rattle.csl_syntax.specs.declared.token.Token.TheVariants.{Truth, Falsehood, Name, ProbabilityWord, NextWord, UntilWord, ReservedWord, Bang, AndAnd, OrOr, OpenParen, CloseParen, OpenBrace, CloseBrace, OpenBracket, CloseBracket, Comma, Tilde, Compare, Number}
-use Rattle.csl_syntax.proofs.Runs.{true_is_false, both_ways, and_left, and_both, same_first, same_rest, nothing_first}
-use Rattle.csl_syntax.proofs.LongestTokens.{StartsBy, AllOf, one_of, word_starts, number_starts, symbol_short, word_before, symbol_before, EndsNumber, EndsSymbol, number_before}
+use Rattle.csl_syntax.proofs.Runs.{true_is_false, both_ways, and_both, same_first, same_rest, nothing_first}
+use Rattle.csl_syntax.proofs.LongestTokens.{AllOf, one_of, word_starts, number_starts, symbol_short, word_before, symbol_before, number_before}
 use Rattle.csl_syntax.proofs.Exponents.{IsLetter, IsSignByte, plain_exponent, signed_exponent, no_signed_exponent, no_plain_exponent, no_letter}
 
 -- the text writes some token
@@ -46,9 +45,31 @@ module _ (labels : List (List ℕ)) where
   word_writes (b ∷ s) h = word_by b s (is_reserved (b ∷ s)) refl h
 
   symbols_write : AllOf (WritesSome labels) symbols
-  symbols_write =
-      ((AndAnd, refl), ((OrOr, refl), ((Bang, refl), ((OpenParen, refl), ((CloseParen, refl), ((OpenBrace, refl), ((CloseBrace, refl), ((OpenBracket, refl),
-      ((CloseBracket, refl), ((Comma, refl), ((Tilde, refl), ((Compare AtMost, refl), ((Compare AtLeast, refl), ((Compare Less, refl), ((Compare More, refl), tt)))))))))))))))
+  symbols_write = (
+    (AndAnd, refl),
+    (
+      (OrOr, refl),
+      (
+        (Bang, refl),
+        (
+          (OpenParen, refl),
+          (
+            (CloseParen, refl),
+            (
+              (OpenBrace, refl),
+              (
+                (CloseBrace, refl),
+                (
+                  (OpenBracket, refl),
+                  ((CloseBracket, refl), ((Comma, refl), ((Tilde, refl), ((Compare AtMost, refl), ((Compare AtLeast, refl), ((Compare Less, refl), ((Compare More, refl), tt))))))),
+                ),
+              ),
+            ),
+          ),
+        ),
+      ),
+    ),
+  )
 
   -- a symbol writes some token
   pub symbol_writes : (w : List ℕ) → is_symbol w ≡ true → WritesSome labels w
@@ -155,12 +176,12 @@ has_no_token bytes b m e q n d h g = record {
 pub pair_before : (bytes : List ℕ) (b c : ℕ) (m : List ℕ) → bytes ≡ b ∷ c ∷ m → is_symbol (b ∷ c ∷ []) ≡ true → IsTokenBefore bytes (b ∷ c ∷ []) m
 pair_before bytes b c m e h = symbol_before bytes (b ∷ c ∷ []) m e h (λ d r f. too_many (is_symbol (b ∷ c ∷ d ∷ [])) (λ k. too_long b c d k))
   where
-  too_many : (x : Bool) → (x ≡ true → ⊥) → x ≡ false
-  too_many true k = absurd (k refl)
-  too_many false k = refl
+    too_many : (x : Bool) → (x ≡ true → ⊥) → x ≡ false
+    too_many true k = absurd (k refl)
+    too_many false k = refl
 
-  too_long : (b c d : ℕ) → is_symbol (b ∷ c ∷ d ∷ []) ≡ true → ⊥
-  too_long b c d k = let l : 3 ≤ 2 = (symbol_short (b ∷ c ∷ d ∷ []) k).1 in omega (arith, l)
+    too_long : (b c d : ℕ) → is_symbol (b ∷ c ∷ d ∷ []) ≡ true → ⊥
+    too_long b c d k = let l : 3 ≤ 2 = (symbol_short (b ∷ c ∷ d ∷ []) k).1 in omega (arith, l)
 
 -- a symbol of one byte
 pub single_before : (bytes : List ℕ) (b : ℕ) (m : List ℕ) → bytes ≡ b ∷ m → is_symbol (b ∷ []) ≡ true → ((c : ℕ) (r : List ℕ) → m ≡ c ∷ r → is_symbol (b ∷ c ∷ []) ≡ false) →
@@ -191,36 +212,36 @@ module _ (labels : List (List ℕ)) where
   number_front : (b : ℕ) (s : List ℕ) → is_digit_or_point b ≡ true → Split is_digit_or_point s → Front (b ∷ s)
   number_front b s e h = number_ends b s h.run h.rest e h.splits (exponent_front h.rest)
     where
-    append_nil : (s : List ℕ) → s ++ [] ≡ s
-    append_nil [] = refl
-    append_nil (t ∷ s) = ap (λ v. t ∷ v) (append_nil s)
+      append_nil : (s : List ℕ) → s ++ [] ≡ s
+      append_nil [] = refl
+      append_nil (t ∷ s) = ap (λ v. t ∷ v) (append_nil s)
 
-    number_ends : (b : ℕ) (s run rest : List ℕ) → is_digit_or_point b ≡ true → SplitsRun is_digit_or_point s run rest → ExponentFront rest → Front (b ∷ s)
-    number_ends b s run rest e h (inl (k, x)) =
-        let some : 0 < suc (length run) = omega arith in
-        let n : IsNumberText (b ∷ (run ++ exponent_text (Some x.exponent))) = record {
-              run = b ∷ run;
-              exponent = Some x.exponent;
-              spelled = refl;
-              some = some;
-              digits_and_points = and_both (is_digit_or_point b) (list_all is_digit_or_point run) e h.all;
-              written = x.written;
-            } in
-        let stands : b ∷ s ≡ b ∷ (run ++ exponent_text (Some x.exponent)) ++ k =
-              ap (λ v. b ∷ v) (h.split ∙ ap (λ v. run ++ v) x.split ∙ sym (append_assoc run (exponent_text (Some x.exponent)) k)) in
-        number_text (b ∷ s) (b ∷ (run ++ exponent_text (Some x.exponent))) k
+      number_ends : (b : ℕ) (s run rest : List ℕ) → is_digit_or_point b ≡ true → SplitsRun is_digit_or_point s run rest → ExponentFront rest → Front (b ∷ s)
+      number_ends b s run rest e h (inl (k, x)) =
+          let some : 0 < suc (length run) = omega arith in
+          let n : IsNumberText (b ∷ (run ++ exponent_text (Some x.exponent))) = record {
+            run = b ∷ run;
+            exponent = Some x.exponent;
+            spelled = refl;
+            some = some;
+            digits_and_points = and_both (is_digit_or_point b) (list_all is_digit_or_point run) e h.all;
+            written = x.written;
+          } in
+          let stands : b ∷ s ≡ b ∷ (run ++ exponent_text (Some x.exponent)) ++ k =
+          ap (λ v. b ∷ v) (h.split ∙ ap (λ v. run ++ v) x.split ∙ sym (append_assoc run (exponent_text (Some x.exponent)) k)) in
+          number_text (b ∷ s) (b ∷ (run ++ exponent_text (Some x.exponent))) k
           (number_before (b ∷ s) (b ∷ (run ++ exponent_text (Some x.exponent))) k n stands x.ends) n
-    number_ends b s run rest e h (inr x) =
-        let some : 0 < suc (length run) = omega arith in
-        let n : IsNumberText (b ∷ run) = record {
-              run = b ∷ run;
-              exponent = None;
-              spelled = sym (append_nil (b ∷ run));
-              some = some;
-              digits_and_points = and_both (is_digit_or_point b) (list_all is_digit_or_point run) e h.all;
-              written = tt;
-            } in
-        number_text (b ∷ s) (b ∷ run) rest (number_before (b ∷ s) (b ∷ run) rest n (ap (λ v. b ∷ v) h.split) (h.ends, x)) n
+      number_ends b s run rest e h (inr x) =
+          let some : 0 < suc (length run) = omega arith in
+          let n : IsNumberText (b ∷ run) = record {
+            run = b ∷ run;
+            exponent = None;
+            spelled = sym (append_nil (b ∷ run));
+            some = some;
+            digits_and_points = and_both (is_digit_or_point b) (list_all is_digit_or_point run) e h.all;
+            written = tt;
+          } in
+          number_text (b ∷ s) (b ∷ run) rest (number_before (b ∷ s) (b ∷ run) rest n (ap (λ v. b ∷ v) h.split) (h.ends, x)) n
 
   single_front : (b : ℕ) (s : List ℕ) (r : Bool) → is_symbol (b ∷ []) ≡ r → is_blank b ≡ false → begins_name b ≡ false → is_digit_or_point b ≡ false →
       ((c : ℕ) (m : List ℕ) → s ≡ c ∷ m → is_symbol (b ∷ c ∷ []) ≡ false) → Front (b ∷ s)

@@ -1,6 +1,5 @@
 -- When a text at the head of bytes is the longest token there.
-use Rattle.std.proofs.Common.{◌≡◌, ◌≢◌, ℕ, zero, suc, ◌+◌, ◌<◌, ◌≤◌, ◌⊎◌, inl, inr, Bool, true, false, ◌&&◌, ◌||◌, ◌==◌, cond, Option, Some, None, List, [], ◌∷◌, ◌++◌, length, refl, sym, ◌∙◌, ap, subst, arith, append_assoc, length-append}
-use Rattle.std.specs.Prelude.{IsTrue, codes}
+use Rattle.std.proofs.Common.{◌≡◌, ℕ, ◌+◌, ◌<◌, ◌≤◌, ◌⊎◌, inl, inr, Bool, true, false, ◌||◌, Option, Some, None, List, [], ◌∷◌, ◌++◌, length, refl, sym, ◌∙◌, ap, subst, arith, append_assoc, length-append}
 use Rattle.std.specs.Char.{is_ascii_digit}
 use Rattle.std.specs.List.{list_all, list_any}
 use Rattle.std.specs.Str.{bytes_eq}
@@ -10,7 +9,7 @@ use Rattle.text_lines.specs.Name.{begins_name, continues_name}
 use Rattle.text_lines.specs.Words.{is_blank}
 use Rattle.csl_syntax.specs.Scanner.{EndsRun, HasNoExponent}
 use Rattle.csl_syntax.specs.TokenText.{is_word, is_digit_or_point, IsNumberText, symbols, is_symbol, IsTokenText, IsTokenBefore}
-use Rattle.csl_syntax.proofs.Runs.{true_is_false, both_ways, and_left, and_right, and_both, same_first, same_rest, nothing_first, split_same, word_no_number, word_no_blank, number_no_blank, begins_continues, digits_are}
+use Rattle.csl_syntax.proofs.Runs.{true_is_false, both_ways, and_left, and_right, and_both, same_first, same_rest, nothing_first, split_same, word_no_number, begins_continues, digits_are}
 
 -- what a text says of its first byte, by its kind
 pub record StartsBy (P : ℕ → Type 0) (text : List ℕ) : Type 0 where
@@ -37,7 +36,7 @@ pub word_continues : (text : List ℕ) → is_word text ≡ true → list_all co
 word_continues [] h = refl
 word_continues (b ∷ s) h =
     and_both (continues_name b) (list_all continues_name s) (begins_continues b (and_left (begins_name b) (list_all continues_name s) h))
-      (and_right (begins_name b) (list_all continues_name s) h)
+    (and_right (begins_name b) (list_all continues_name s) h)
 
 nothing_below : 0 < 0 → ⊥
 nothing_below h = omega (arith, h)
@@ -74,11 +73,43 @@ two_bytes : (b c : ℕ) → Other b → IsShort (b ∷ c ∷ [])
 two_bytes b c h = (record { first = b; others = c ∷ []; split = refl; is = h }, omega arith)
 
 all_short : AllOf IsShort symbols
-all_short =
-    (two_bytes 38 38 (refl, refl, refl), (two_bytes 124 124 (refl, refl, refl), (one_byte 33 (refl, refl, refl), (one_byte 40 (refl, refl, refl),
-    (one_byte 41 (refl, refl, refl), (one_byte 123 (refl, refl, refl), (one_byte 125 (refl, refl, refl), (one_byte 91 (refl, refl, refl),
-    (one_byte 93 (refl, refl, refl), (one_byte 44 (refl, refl, refl), (one_byte 126 (refl, refl, refl), (two_bytes 60 61 (refl, refl, refl),
-    (two_bytes 62 61 (refl, refl, refl), (one_byte 60 (refl, refl, refl), (one_byte 62 (refl, refl, refl), tt)))))))))))))))
+all_short = (
+  two_bytes 38 38 (refl, refl, refl),
+  (
+    two_bytes 124 124 (refl, refl, refl),
+    (
+      one_byte 33 (refl, refl, refl),
+      (
+        one_byte 40 (refl, refl, refl),
+        (
+          one_byte 41 (refl, refl, refl),
+          (
+            one_byte 123 (refl, refl, refl),
+            (
+              one_byte 125 (refl, refl, refl),
+              (
+                one_byte 91 (refl, refl, refl),
+                (
+                  one_byte 93 (refl, refl, refl),
+                  (
+                    one_byte 44 (refl, refl, refl),
+                    (
+                      one_byte 126 (refl, refl, refl),
+                      (
+                        two_bytes 60 61 (refl, refl, refl),
+                        (two_bytes 62 61 (refl, refl, refl), (one_byte 60 (refl, refl, refl), (one_byte 62 (refl, refl, refl), tt))),
+                      ),
+                    ),
+                  ),
+                ),
+              ),
+            ),
+          ),
+        ),
+      ),
+    ),
+  ),
+)
 
 pub symbol_short : (text : List ℕ) → is_symbol text ≡ true → IsShort text
 symbol_short text h = one_of IsShort text symbols h all_short
@@ -197,8 +228,11 @@ exponent_longest : (x y : Option ExponentSpelling) (a k : List ℕ) → IsExpone
 exponent_longest x None a k w u s e = omega arith
 exponent_longest None (Some y) a k w u s e = absurd (s.1 y k u e)
 exponent_longest (Some x) (Some y) a k w u s e =
-    omega (arith, signed_longest x.sign y.sign x.digits y.digits a k (digits_are x.digits w.digits.1) (digits_are y.digits u.digits.1) w.digits.0 u.digits.0 s
-      (same_rest x.letter y.letter ((sign_text x.sign ++ x.digits) ++ a) ((sign_text y.sign ++ y.digits) ++ k) e))
+    omega (
+      arith,
+      signed_longest x.sign y.sign x.digits y.digits a k (digits_are x.digits w.digits.1) (digits_are y.digits u.digits.1) w.digits.0 u.digits.0 s
+          (same_rest x.letter y.letter ((sign_text x.sign ++ x.digits) ++ a) ((sign_text y.sign ++ y.digits) ++ k) e),
+    )
 
 no_letter_in_run : (b : ℕ) (m k : List ℕ) (y : ExponentSpelling) → IsWritten y → is_digit_or_point b ≡ true → exponent_text (Some y) ++ k ≡ b ∷ m → ⊥
 no_letter_in_run b m k y w h e =
@@ -216,15 +250,20 @@ numbers : (r v a k : List ℕ) (x y : Option ExponentSpelling) → list_all is_d
     (r ++ exponent_text x) ++ a ≡ (v ++ exponent_text y) ++ k → length (v ++ exponent_text y) ≤ length (r ++ exponent_text x)
 numbers r v a k x y h g w u s e =
     let split = split_same is_digit_or_point r v (exponent_text x ++ a) (exponent_text y ++ k) h g (after_run x a w s)
-      (sym (append_assoc r (exponent_text x) a) ∙ e ∙ append_assoc v (exponent_text y) k) in
+    (sym (append_assoc r (exponent_text x) a) ∙ e ∙ append_assoc v (exponent_text y) k) in
     omega (arith, length-append v (exponent_text y), length-append r (exponent_text x), number_by r v a k x y w u s split)
 
 number_longest : (w a v k : List ℕ) (n : IsNumberText w) → EndsNumber n.exponent a → w ++ a ≡ v ++ k → IsTokenText v → length v ≤ length w
 number_longest w a v k n s e (inl g) = absurd (clash number_word w v a k (number_starts w n) (word_starts v g) e)
 number_longest w a v k n s e (inr (inr g)) = absurd (clash number_symbol w v a k (number_starts w n) ((symbol_short v g).0) e)
 number_longest w a v k n s e (inr (inl g)) =
-    omega (arith, ap length n.spelled, ap length g.spelled, numbers n.run g.run a k n.exponent g.exponent n.digits_and_points g.digits_and_points n.written g.written s
-      (ap (λ x. x ++ a) (sym n.spelled) ∙ e ∙ ap (λ x. x ++ k) g.spelled))
+    omega (
+      arith,
+      ap length n.spelled,
+      ap length g.spelled,
+      numbers n.run g.run a k n.exponent g.exponent n.digits_and_points g.digits_and_points n.written g.written s
+          (ap (λ x. x ++ a) (sym n.spelled) ∙ e ∙ ap (λ x. x ++ k) g.spelled),
+    )
 
 -- what begins as a number, where what follows doesn't go on with it
 pub number_before : (bytes w a : List ℕ) (n : IsNumberText w) → bytes ≡ w ++ a → EndsNumber n.exponent a → IsTokenBefore bytes w a

@@ -1,6 +1,6 @@
 -- At the head of bytes stands one token at most.
-use Rattle.std.proofs.Common.{◌≡◌, ℕ, zero, suc, ◌+◌, ◌<◌, ◌≤◌, ◌⊎◌, inl, inr, Bool, true, false, ◌&&◌, not, cond, Option, Some, None, List, [], ◌∷◌, ◌++◌, length, refl, sym, ◌∙◌, ap, subst, arith}
-use Rattle.std.specs.Prelude.{IsTrue, codes, unwrap_or}
+use Rattle.std.proofs.Common.{◌≡◌, ℕ, suc, ◌+◌, ◌<◌, ◌≤◌, ◌⊎◌, inl, inr, Bool, true, false, ◌&&◌, not, cond, Option, Some, None, List, [], ◌∷◌, ◌++◌, length, refl, sym, ◌∙◌, ap, subst, arith}
+use Rattle.std.specs.Prelude.{codes, unwrap_or}
 use Rattle.std.specs.List.{list_all}
 use Rattle.std.specs.Str.{bytes_eq}
 use Rattle.std.specs.Str.Parse.{AllDigits}
@@ -9,16 +9,15 @@ use Rattle.decimal_text.specs.DecimalNumber.{DecimalNumber}
 use Rattle.decimal_text.specs.DecimalWord.{IsDecimalWord, HasNumberFault}
 use Rattle.decimal_text.specs.Spelling.{decimals_text, exponent_text}
 use Rattle.decimal_text.specs.declared.number_fault.NumberFault.{NumberFault}
-use Rattle.decimal_text.proofs.DecimalCases.{WordCase, Writes as IsWritten, Lacks, IsWordCase, word_case_unique}
+use Rattle.decimal_text.proofs.DecimalCases.{Writes as IsWritten, Lacks, word_case_unique}
 use Rattle.text_lines.specs.Name.{is_name, is_reserved, begins_name, continues_name}
 use Rattle.text_lines.specs.Words.{is_blank}
-use Rattle.csl_syntax.specs.TokenText.{is_word, is_digit_or_point, IsNumberText, is_symbol, IsTokenText, IsTokenBefore}
-use Rattle.csl_syntax.specs.Tokens.{label_number, op_text, Writes, BeginsWithToken}
-use Rattle.csl_syntax.specs.declared.formula.Op.{Op}
+use Rattle.csl_syntax.specs.TokenText.{is_digit_or_point, IsNumberText, IsTokenText, IsTokenBefore}
+use Rattle.csl_syntax.specs.Tokens.{label_number, Writes, BeginsWithToken}
 use Rattle.csl_syntax.specs.declared.formula.Op.TheVariants.{Less, AtMost, More, AtLeast}
 use Rattle.csl_syntax.specs.declared.token.Token.{Token}
 use Rattle.csl_syntax.specs.declared.token.Token.TheVariants.{Truth, Falsehood, Name, ProbabilityWord, NextWord, UntilWord, ReservedWord, Bang, AndAnd, OrOr, OpenParen, CloseParen, OpenBrace, CloseBrace, OpenBracket, CloseBracket, Comma, Tilde, Compare, Number}
-use Rattle.csl_syntax.proofs.Runs.{true_is_false, both_ways, and_left, same_first, same_rest, nothing_first, word_no_number, word_no_blank, number_no_blank, digit_is, digit_is_in_run}
+use Rattle.csl_syntax.proofs.Runs.{both_ways, and_left, same_first, same_rest, nothing_first, word_no_number, word_no_blank, number_no_blank, digit_is, digit_is_in_run}
 use Rattle.csl_syntax.proofs.LongestTokens.{StartsBy, word_starts, number_starts, symbol_short}
 
 no_successor : (n : ℕ) → 0 ≡ suc n → ⊥
@@ -75,7 +74,7 @@ name_starts : (w : List ℕ) → is_name w ≡ true → in_run w ≡ false
 name_starts [] h = refl
 name_starts (b ∷ s) h =
     let first : begins_name b ≡ true =
-      and_left (begins_name b) (list_all continues_name s) (and_left (begins_name b && list_all continues_name s) (not (is_reserved (b ∷ s))) h) in
+    and_left (begins_name b) (list_all continues_name s) (and_left (begins_name b && list_all continues_name s) (not (is_reserved (b ∷ s))) h) in
     false_of (is_digit_or_point b) (λ k. word_no_number b first k)
 
 mantissa_starts : (whole : List ℕ) (decimals : Option (List ℕ)) (tail : List ℕ) → AllDigits 10 whole → 0 < length whole + length (unwrap_or decimals []) →
@@ -125,8 +124,8 @@ writes_as labels w (Number v) h = inl (v, refl, h, decimal_starts w v h)
 same_decimal : (w : List ℕ) (u v : DecimalNumber) → IsDecimalWord w u → IsDecimalWord w v → u ≡ v
 same_decimal w u v h g = case_value (word_case_unique w (IsWritten u) (IsWritten v) h g)
   where
-  case_value : {a b : DecimalNumber} → IsWritten a ≡ IsWritten b → a ≡ b
-  case_value e = cc
+    case_value : {a b : DecimalNumber} → IsWritten a ≡ IsWritten b → a ≡ b
+    case_value e = cc
 
 one_written : (labels : List (List ℕ)) (w : List ℕ) (t u : Token) → WritesAs labels w t → WritesAs labels w u → t ≡ u
 one_written labels w t u (inl (a, e, h, r)) (inl (b, f, g, s)) = e ∙ ap Number (same_decimal w a b h g) ∙ sym f
@@ -173,12 +172,12 @@ not_empty bytes w a h e =
 pub no_number : (labels : List (List ℕ)) (w : List ℕ) (t : Token) (fault : NumberFault) → IsNumberText w → HasNumberFault w fault → Writes labels w t → ⊥
 no_number labels w t fault n f h = no_number_as labels w t fault n f (writes_as labels w t h)
   where
-  is_in_run : (text : List ℕ) → StartsBy (λ b. is_digit_or_point b ≡ true) text → in_run text ≡ true
-  is_in_run text s = ap in_run s.split ∙ s.is
+    is_in_run : (text : List ℕ) → StartsBy (λ b. is_digit_or_point b ≡ true) text → in_run text ≡ true
+    is_in_run text s = ap in_run s.split ∙ s.is
 
-  lacks : {v : DecimalNumber} {e : NumberFault} → IsWritten v ≡ Lacks e → ⊥
-  lacks e = cc
+    lacks : {v : DecimalNumber} {e : NumberFault} → IsWritten v ≡ Lacks e → ⊥
+    lacks e = cc
 
-  no_number_as : (labels : List (List ℕ)) (w : List ℕ) (t : Token) (fault : NumberFault) → IsNumberText w → HasNumberFault w fault → WritesAs labels w t → ⊥
-  no_number_as labels w t fault n f (inl (v, e, h, r)) = lacks (word_case_unique w (IsWritten v) (Lacks fault) h f)
-  no_number_as labels w t fault n f (inr (r, e)) = both_ways (in_run w) (is_in_run w (number_starts w n)) r
+    no_number_as : (labels : List (List ℕ)) (w : List ℕ) (t : Token) (fault : NumberFault) → IsNumberText w → HasNumberFault w fault → WritesAs labels w t → ⊥
+    no_number_as labels w t fault n f (inl (v, e, h, r)) = lacks (word_case_unique w (IsWritten v) (Lacks fault) h f)
+    no_number_as labels w t fault n f (inr (r, e)) = both_ways (in_run w) (is_in_run w (number_starts w n)) r

@@ -1,23 +1,21 @@
 -- Each line stands for a formula or has a fault; and the formula is over the labels.
-use Rattle.std.proofs.Common.{◌≡◌, ℕ, zero, suc, ◌+◌, ◌≤◌, ◌<◌, ◌⊎◌, inl, inr, Bool, true, false, nat_le, Option, Some, None, List, [], ◌∷◌, ◌++◌, length, refl, sym, ◌∙◌, ap, subst, arith, length-append}
+use Rattle.std.proofs.Common.{◌≡◌, ℕ, zero, suc, ◌+◌, ◌≤◌, ◌<◌, ◌⊎◌, inl, inr, Bool, true, false, nat_le, Option, Some, None, List, [], ◌∷◌, ◌++◌, length, refl, sym, ap, subst, arith, length-append}
 use Rattle.std.proofs.lemmas.Bool.{leb-true, leb-false}
 use Rattle.text_lines.specs.Words.{is_blank}
 use Rattle.csl_syntax.specs.declared.fault.FormulaWhat.{FormulaWhat}
 use Rattle.csl_syntax.specs.declared.fault.FormulaWhat.TheVariants as what
 use Rattle.csl_syntax.specs.declared.limits.TheConstants.{MOST_BYTES, MOST_NESTED}
 use Rattle.csl_syntax.specs.declared.token.Token.{Token}
-use Rattle.csl_syntax.specs.declared.token.Token.TheVariants.{Name, Number}
+use Rattle.csl_syntax.specs.declared.token.Token.TheVariants.{Name}
 use Rattle.csl_syntax.specs.Tree.{Tree, IsOver}
-use Rattle.csl_syntax.specs.TokenText.{IsTokenBefore}
 use Rattle.csl_syntax.specs.Tokens.{BeginsWithToken, HasTokens, no_more}
-use Rattle.csl_syntax.specs.Grammar.{Limits, Level, formula, conj, unary, atom, Derives, a_truth, a_falsehood, a_name, in_parens, a_next, an_until, a_not, an_atom, an_and, a_unary, an_or, a_conj, BeginsWithin, Begins, IsSpelled}
-use Rattle.csl_syntax.specs.FormulaText.{line_limits, FormulaSays}
-use Rattle.csl_syntax.specs.FormulaFault.{HasNoToken, HasFaultyNumber, FailsBy, LineFailsAt, FormulaFaultAt}
+use Rattle.csl_syntax.specs.Grammar.{Level, Derives, a_truth, a_falsehood, a_name, in_parens, a_next, an_until, a_not, an_atom, an_and, a_unary, an_or, a_conj, BeginsWithin, Begins}
+use Rattle.csl_syntax.specs.FormulaText.{line_limits}
+use Rattle.csl_syntax.specs.FormulaFault.{FailsBy, LineFailsAt, FormulaFaultAt}
 use Rattle.csl_syntax.specs.Laws.{SaysSomeFormula, HasSomeFormulaFault, FormulaOrFault, FormulasAreOverLabels}
 use Rattle.csl_syntax.specs.Machine.{State, want, have, more, stopped, start, step, run, whole}
-use Rattle.csl_syntax.proofs.Runs.{nothing_first}
 use Rattle.csl_syntax.proofs.Sound.{read_is_spelled}
-use Rattle.csl_syntax.proofs.Endings.{IsGoing, limits, run-one, goes_on, goes}
+use Rattle.csl_syntax.proofs.Endings.{IsGoing, run-one, goes_on}
 use Rattle.csl_syntax.proofs.Stops.{not_spelled}
 use Rattle.csl_syntax.proofs.TokenFaults.{TokenFails, token_fails}
 use Rattle.csl_syntax.proofs.OneToken.{text_starts}
@@ -38,15 +36,15 @@ module _ (labels : List (List ℕ)) where
   fails_at ts r m t what.Expected h f = inl (record { token = t; more = m; next = h; unexpected = f })
   fails_at ts r m t what.UnknownLabel h (j, e, b, l) = inl_name ts r m t j h e b l
     where
-    inl_name : (ts : List Token) (r m : List ℕ) (t : Token) (j : ℕ) → BeginsWithToken labels r t m → t ≡ Name j → Begins (ts ++ t ∷ []) → length labels ≤ j →
-        FailsBy labels ts r what.UnknownLabel
-    inl_name ts r m t j h e b l = record {
-      place = j;
-      more = m;
-      next = subst (λ x. BeginsWithToken labels r x m) e h;
-      expected = subst (λ x. Begins (ts ++ x ∷ [])) e b;
-      unknown = l;
-    }
+      inl_name : (ts : List Token) (r m : List ℕ) (t : Token) (j : ℕ) → BeginsWithToken labels r t m → t ≡ Name j → Begins (ts ++ t ∷ []) → length labels ≤ j →
+          FailsBy labels ts r what.UnknownLabel
+      inl_name ts r m t j h e b l = record {
+        place = j;
+        more = m;
+        next = subst (λ x. BeginsWithToken labels r x m) e h;
+        expected = subst (λ x. Begins (ts ++ x ∷ [])) e b;
+        unknown = l;
+      }
   fails_at ts r m t what.Threshold h (op, earlier, v, e, k, b, l) = record {
     op = op;
     earlier = earlier;
@@ -90,8 +88,8 @@ module _ (labels : List (List ℕ)) where
   column_of zero l h = (l + 1, omega arith)
   column_of (suc r) zero h = absurd (too_small r h)
     where
-    too_small : (r : ℕ) → suc r ≤ 0 → ⊥
-    too_small r h = omega (arith, h)
+      too_small : (r : ℕ) → suc r ≤ 0 → ⊥
+      too_small r h = omega (arith, h)
   column_of (suc r) (suc l) h = let i = column_of r l (omega (arith, h)) in (i.0, omega (arith, i.1))
 
   abbrev Outcome : List ℕ → Type 0

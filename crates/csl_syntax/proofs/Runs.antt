@@ -1,5 +1,5 @@
 -- Runs of bytes that pass a test, and the bytes with which tokens begin.
-use Rattle.std.proofs.Common.{◌≡◌, ℕ, zero, suc, ◌+◌, ◌<◌, ◌≤◌, ◌⊎◌, inl, inr, Bool, true, false, ◌&&◌, ◌||◌, ◌==◌, List, [], ◌∷◌, ◌++◌, length, refl, sym, ◌∙◌, ap, arith, cond}
+use Rattle.std.proofs.Common.{◌≡◌, ℕ, ◌+◌, ◌<◌, ◌⊎◌, inl, inr, Bool, true, false, ◌&&◌, List, [], ◌∷◌, ◌++◌, length, refl, sym, ◌∙◌, arith}
 use Rattle.std.proofs.lemmas.Bool.Decides.{nat_tests}
 use Rattle.std.specs.Char.{is_ascii_digit, digit_value}
 use Rattle.std.specs.List.{list_all}
@@ -52,7 +52,7 @@ module _ (p : ℕ → Bool) where
   split_same (b ∷ w) [] a k h g s e = inr (b, w ++ a, and_left (p b) (list_all p w) h, sym e, omega arith)
   split_same (b ∷ w) (c ∷ v) a k h g s e =
       longer b c w v a k (same_first b c (w ++ a) (v ++ k) e)
-        (split_same w v a k (and_right (p b) (list_all p w) h) (and_right (p c) (list_all p v) g) s (same_rest b c (w ++ a) (v ++ k) e))
+      (split_same w v a k (and_right (p b) (list_all p w) h) (and_right (p c) (list_all p v) g) s (same_rest b c (w ++ a) (v ++ k) e))
 
 -- a word's first byte, a number's and a blank differ
 pub word_no_number : (b : ℕ) → begins_name b ≡ true → is_digit_or_point b ≡ true → ⊥

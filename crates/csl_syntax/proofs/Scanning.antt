@@ -1,16 +1,15 @@
 -- The tokens of a line, and what is wrong with it, are no others.
 use Rattle.std.proofs.Common.{◌≡◌, ℕ, ◌+◌, ◌≤◌, ◌<◌, ◌⊎◌, inl, inr, true, List, [], ◌∷◌, ◌++◌, length, refl, sym, ◌∙◌, ap, subst, arith, append_assoc}
-use Rattle.std.specs.Prelude.{IsTrue}
 use Rattle.text_lines.specs.Words.{is_blank}
 use Rattle.csl_syntax.specs.declared.fault.FormulaWhat.{FormulaWhat}
 use Rattle.csl_syntax.specs.declared.fault.FormulaWhat.TheVariants as what
-use Rattle.csl_syntax.specs.declared.limits.TheConstants.{MOST_BYTES, MOST_NESTED}
+use Rattle.csl_syntax.specs.declared.limits.TheConstants.{MOST_BYTES}
 use Rattle.csl_syntax.specs.declared.token.Token.{Token}
-use Rattle.csl_syntax.specs.declared.token.Token.TheVariants.{Name, Compare, Number}
+use Rattle.csl_syntax.specs.declared.token.Token.TheVariants.{Name, Number}
 use Rattle.csl_syntax.specs.Tree.{Tree}
 use Rattle.csl_syntax.specs.TokenText.{IsTokenBefore}
 use Rattle.csl_syntax.specs.Tokens.{Writes, BeginsWithToken, HasTokens, no_more, skip, take_token}
-use Rattle.csl_syntax.specs.Grammar.{Limits, Spells, BeginsWithin, Begins, IsSpelled}
+use Rattle.csl_syntax.specs.Grammar.{Limits, Spells, BeginsWithin, IsSpelled}
 use Rattle.csl_syntax.specs.FormulaText.{line_limits, FormulaSays}
 use Rattle.csl_syntax.specs.FormulaFault.{HasNoToken, HasFaultyNumber, FailsBy, LineFailsAt, FormulaFaultAt}
 use Rattle.csl_syntax.specs.Laws.{OneFormula, OneFormulaFault, FormulaHasNoFault}
@@ -124,7 +123,7 @@ module _ (labels : List (List ℕ)) where
   stays ts r b v p f (skip {more = m} {b = c} e h x) q = absurd (fails_blank ts r v c m f e h)
   stays ts r b v p f (take_token {more = m} {t = t} {ts = us} h x) q =
       absurd (fails_token ts r v t m p f h
-        (front_begins (line_limits labels) (ts ++ t ∷ []) us (subst (BeginsWithin (line_limits labels)) (sym (append_assoc ts (t ∷ []) us)) q)))
+      (front_begins (line_limits labels) (ts ++ t ∷ []) us (subst (BeginsWithin (line_limits labels)) (sym (append_assoc ts (t ∷ []) us)) q)))
 
   one_place : (ts : List Token) (r : List ℕ) (v w : FormulaWhat) → Place ts r v → Place ts r w → v ≡ w
   one_place ts r v w (inl (h, e)) (inl (g, f)) = e ∙ sym f
@@ -149,9 +148,10 @@ module _ (labels : List (List ℕ)) where
   places : (line : List ℕ) (k l : ℕ) (v w : FormulaWhat) (f : LineFailsAt line labels k v) (g : LineFailsAt line labels l w) → f.rest ≡ g.rest → f.before ≡ g.before →
       (k ≡ l) × (v ≡ w)
   places line k l v w f g e h =
-      let same : length f.rest ≡ length g.rest = ap length e in
-      (omega (arith, f.here, g.here, same),
-       one_place g.before g.rest v w (subst (λ x. Place x g.rest v) h (subst (λ x. Place f.before x v) e (place f.before f.rest v f.fails))) (place g.before g.rest w g.fails))
+      let same : length f.rest ≡ length g.rest = ap length e in (
+        omega (arith, f.here, g.here, same),
+        one_place g.before g.rest v w (subst (λ x. Place x g.rest v) h (subst (λ x. Place f.before x v) e (place f.before f.rest v f.fails))) (place g.before g.rest w g.fails),
+      )
 
   one_failure_of : (line : List ℕ) (k l : ℕ) (v w : FormulaWhat) (f : LineFailsAt line labels k v) (g : LineFailsAt line labels l w) → Meets f.before f.rest g.before g.rest →
       (k ≡ l) × (v ≡ w)
@@ -178,7 +178,7 @@ module _ (labels : List (List ℕ)) where
   says_or_fails line f k v h g (inl (more, e, x)) =
       let i = at_end x refl in
       says_place line f h g.rest v (sym i.1)
-        (subst (λ u. Place u g.rest v) (e ∙ ap (λ u. h.tokens ++ u) i.0 ∙ append_nil h.tokens) (place g.before g.rest v g.fails))
+      (subst (λ u. Place u g.rest v) (e ∙ ap (λ u. h.tokens ++ u) i.0 ∙ append_nil h.tokens) (place g.before g.rest v g.fails))
   says_or_fails line f k v h g (inr (more, e, x)) =
       let i = stays g.before g.rest [] v g.pass (place g.before g.rest v g.fails) x (subst (BeginsWithin (line_limits labels)) e (spelled_begins f h.tokens h.spells)) in
       says_place line f h g.rest v i.1 (subst (λ u. Place u g.rest v) (sym (e ∙ ap (λ u. g.before ++ u) i.0 ∙ append_nil g.before)) (place g.before g.rest v g.fails))

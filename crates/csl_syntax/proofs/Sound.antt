@@ -1,13 +1,12 @@
 -- What the machine reads, the grammar derives.
-use Rattle.std.proofs.Common.{◌≡◌, ℕ, zero, suc, ◌<◌, ◌≤◌, ◌*◌, ◌^◌, Bool, true, false, List, [], ◌∷◌, Option, Some, None, refl, sym, subst, nat_lt, nat_le}
+use Rattle.std.proofs.Common.{◌≡◌, ℕ, zero, suc, ◌<◌, ◌*◌, ◌^◌, Bool, true, false, List, [], ◌∷◌, Option, Some, None, refl, sym, subst, nat_lt, nat_le}
 use Rattle.std.proofs.lemmas.Bool.{ltb-true, leb-true}
 use Rattle.decimal_text.specs.DecimalNumber.{DecimalNumber}
-use Rattle.csl_syntax.specs.declared.fault.FormulaWhat.{FormulaWhat}
 use Rattle.csl_syntax.specs.declared.token.Token.{Token}
 use Rattle.csl_syntax.specs.declared.token.Token.TheVariants.{Truth, Falsehood, Name, ProbabilityWord, NextWord, UntilWord, Bang, AndAnd, OrOr, OpenParen, CloseParen, OpenBrace, CloseBrace, OpenBracket, CloseBracket, Comma, Tilde, Compare, Number}
 use Rattle.csl_syntax.specs.declared.formula.Op.{Op}
 use Rattle.csl_syntax.specs.declared.formula.Bound.TheVariants.{Unbounded, Time, Reward}
-use Rattle.csl_syntax.specs.Tree.{Tree, label, negation, next, until, IsUpTo}
+use Rattle.csl_syntax.specs.Tree.{Tree, next, until, IsUpTo}
 use Rattle.csl_syntax.specs.Grammar.{formula, conj, unary, atom, Derives, a_truth, a_falsehood, a_name, in_parens, a_not, an_atom, an_and, a_unary, an_or, a_conj, a_next, an_until, operator, IsZero, IsBound, no_bound, any_time, in_time, in_reward}
 use Rattle.csl_syntax.specs.Machine.{Layer, Kind, parens, of_next, until_left, until_right, Phase, p_brace, p_op, p_number, p_close, p_bracket, p_path, u_start, u_zero, u_comma, u_limit, u_close, u_any, u_again, v_zero, v_comma, v_limit, v_close, layer, headed, more, named, judged, in_more, in_want, zero_then, closed_as, boxed_as, turned_as, boxed, turned, operand, State, want, have, stopped, start, negated, back, with_both, with_either, closed, bang, opened, step, run, whole_of, whole}
 

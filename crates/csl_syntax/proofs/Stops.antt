@@ -1,24 +1,20 @@
 -- Why the machine stops.
-use Rattle.std.proofs.Common.{◌≡◌, ℕ, zero, suc, ◌+◌, ◌<◌, ◌≤◌, ◌*◌, ◌^◌, ◌⊎◌, inl, inr, Bool, true, false, nat_lt, nat_le, List, [], ◌∷◌, ◌++◌, Option, Some, None, refl, sym, ◌∙◌, ap, subst, arith}
-use Rattle.std.proofs.lemmas.Bool.{lt-ltb, ltb-true, le-leb, leb-true}
+use Rattle.std.proofs.Common.{◌≡◌, ℕ, zero, suc, ◌+◌, ◌<◌, ◌≤◌, ◌*◌, ◌^◌, nat_lt, nat_le, List, [], ◌∷◌, ◌++◌, Option, Some, None, sym, ◌∙◌, ap, subst, arith}
+use Rattle.std.proofs.lemmas.Bool.{lt-ltb, le-leb}
 use Rattle.decimal_text.specs.DecimalNumber.{DecimalNumber}
-use Rattle.csl_syntax.specs.declared.fault.FormulaWhat.{FormulaWhat}
 use Rattle.csl_syntax.specs.declared.fault.FormulaWhat.TheVariants as what
 use Rattle.csl_syntax.specs.declared.token.Token.{Token}
 use Rattle.csl_syntax.specs.declared.token.Token.TheVariants.{Truth, Falsehood, Name, ProbabilityWord, NextWord, UntilWord, Bang, AndAnd, OrOr, OpenParen, CloseParen, OpenBrace, CloseBrace, OpenBracket, CloseBracket, Comma, Tilde, Compare, Number}
 use Rattle.csl_syntax.specs.declared.formula.Op.{Op}
-use Rattle.csl_syntax.specs.declared.formula.Op.TheVariants.{Less}
-use Rattle.csl_syntax.specs.declared.formula.Bound.{Bound}
-use Rattle.csl_syntax.specs.declared.formula.Bound.TheVariants.{Unbounded, Time, Reward}
-use Rattle.csl_syntax.specs.Tree.{Tree, truth, falsehood, label, negation, conjunction, disjunction, next, until, IsUpTo}
-use Rattle.csl_syntax.specs.Grammar.{Limits, formula, conj, unary, atom, Derives, BeginsWithin, Begins, IsSpelled}
-use Rattle.csl_syntax.specs.Machine.{Layer, Kind, parens, of_next, until_left, until_right, Phase, p_brace, p_op, p_number, p_close, p_bracket, p_path, u_start, u_zero, u_comma, u_limit, u_close, u_any, u_again, v_zero, v_comma, v_limit, v_close, layer, headed, more, named, judged, in_more, in_want, zero_then, closed_as, boxed_as, turned_as, boxed, turned, operand, State, want, have, stopped, start, negated, back, with_both, with_either, closed, bang, opened, step, run, whole_of, whole}
-use Rattle.csl_syntax.specs.FormulaFault.{IsEnclosing}
+use Rattle.csl_syntax.specs.declared.formula.Bound.TheVariants.{Unbounded}
+use Rattle.csl_syntax.specs.Tree.{Tree}
+use Rattle.csl_syntax.specs.Grammar.{formula, Derives, Begins, IsSpelled}
+use Rattle.csl_syntax.specs.Machine.{Layer, Kind, parens, of_next, until_left, until_right, Phase, p_brace, p_op, p_number, p_close, p_bracket, p_path, u_start, u_zero, u_comma, u_limit, u_close, u_any, u_again, v_zero, v_comma, v_limit, v_close, layer, more, named, judged, in_more, in_want, zero_then, closed_as, boxed_as, turned_as, boxed, turned, State, want, have, stopped, start, with_both, with_either, closed, step, run, whole}
 use Rattle.csl_syntax.specs.Machine.{in_have}
 use Rattle.decimal_text.proofs.FixedDigits.{ten_pos}
 use Rattle.csl_syntax.proofs.Complete.{roomier, spelled_is_read}
-use Rattle.csl_syntax.proofs.Endings.{IsGoing, limits, run-append, run-one, goes_on, stops, goes}
-use Rattle.csl_syntax.proofs.Wider.{IsFree, IsExpected, raised, raised-run, going_is_free, stuck_once, whole_once}
+use Rattle.csl_syntax.proofs.Endings.{IsGoing, limits, run-one, goes_on, stops}
+use Rattle.csl_syntax.proofs.Wider.{IsExpected, raised, raised-run, going_is_free, stuck_once, whole_once}
 
 nothing_below : 0 < 0 → ⊥
 nothing_below h = omega (arith, h)
@@ -73,7 +69,7 @@ module _ (N T : ℕ) where
       let i = stuck_up labels threshold l.nested d s h in
       let y = roomier_up labels2 threshold2 d l.nested x in
       stops (N + l.labels) (T + l.threshold) (suc (d + l.nested)) s what.Expected
-        (subst (λ v. run (N + l.labels) (T + l.threshold) (start v) s ≡ stopped what.Expected) (both_rooms l.nested d) i) (rest, f, y)
+      (subst (λ v. run (N + l.labels) (T + l.threshold) (start v) s ≡ stopped what.Expected) (both_rooms l.nested d) i) (rest, f, y)
 
   -- what leaves the machine without a whole formula is none
   pub not_spelled : (d : ℕ) (s : List Token) → IsGoing (run N T (start d) s) → whole (run N T (start d) s) ≡ None → ¬ IsSpelled s
@@ -194,5 +190,5 @@ module _ (N T : ℕ) where
       let threshold : T ≤ U = omega arith in
       let i : run M U (start (suc d)) s ≡ raised (run N T (start d) s) = raised-run labels threshold (start d) s (going_is_free (run N T (start d) s) g) in
       let w : IsGoing (run M U (start (suc d)) (s ++ t ∷ [])) =
-        subst IsGoing (sym (run-one M U (start (suc d)) s t ∙ ap (λ q. step M U q t) i)) (freed (run N T (start d) s) t g h) in
+      subst IsGoing (sym (run-one M U (start (suc d)) s t ∙ ap (λ q. step M U q t) i)) (freed (run N T (start d) s) t g h) in
       (limits M U (suc d), goes_on M U (suc d) (s ++ t ∷ []) w)

@@ -1,23 +1,19 @@
 -- The fault of a token, by what the machine does with it.
-use Rattle.std.proofs.Common.{◌≡◌, ℕ, zero, suc, ◌+◌, ◌<◌, ◌≤◌, ◌*◌, ◌^◌, ◌⊎◌, inl, inr, Bool, true, false, nat_lt, nat_le, List, [], ◌∷◌, ◌++◌, Option, Some, None, refl, sym, ◌∙◌, ap, subst, arith}
-use Rattle.std.proofs.lemmas.Bool.{lt-ltb, ltb-true, le-leb, leb-true}
+use Rattle.std.proofs.Common.{◌≡◌, ℕ, ◌<◌, ◌≤◌, ◌*◌, ◌^◌, ◌⊎◌, inl, inr, Bool, true, false, nat_lt, nat_le, List, [], ◌∷◌, ◌++◌, Option, Some, None, refl, sym, ◌∙◌, ap, subst, arith}
+use Rattle.std.proofs.lemmas.Bool.{ltb-true, leb-true}
 use Rattle.decimal_text.specs.DecimalNumber.{DecimalNumber}
 use Rattle.csl_syntax.specs.declared.fault.FormulaWhat.{FormulaWhat}
 use Rattle.csl_syntax.specs.declared.fault.FormulaWhat.TheVariants as what
 use Rattle.csl_syntax.specs.declared.token.Token.{Token}
-use Rattle.csl_syntax.specs.declared.token.Token.TheVariants.{Truth, Falsehood, Name, ProbabilityWord, NextWord, UntilWord, Bang, AndAnd, OrOr, OpenParen, CloseParen, OpenBrace, CloseBrace, OpenBracket, CloseBracket, Comma, Tilde, Compare, Number}
+use Rattle.csl_syntax.specs.declared.token.Token.TheVariants.{Name, Compare, Number}
 use Rattle.csl_syntax.specs.declared.formula.Op.{Op}
-use Rattle.csl_syntax.specs.declared.formula.Op.TheVariants.{Less}
-use Rattle.csl_syntax.specs.declared.formula.Bound.{Bound}
-use Rattle.csl_syntax.specs.declared.formula.Bound.TheVariants.{Unbounded, Time, Reward}
-use Rattle.csl_syntax.specs.Tree.{Tree, truth, falsehood, label, negation, conjunction, disjunction, next, until, IsUpTo}
-use Rattle.csl_syntax.specs.Grammar.{Limits, formula, conj, unary, atom, Derives, BeginsWithin, Begins, IsSpelled}
-use Rattle.csl_syntax.specs.Machine.{Layer, Kind, parens, of_next, until_left, until_right, Phase, p_brace, p_op, p_number, p_close, p_bracket, p_path, u_start, u_zero, u_comma, u_limit, u_close, u_any, u_again, v_zero, v_comma, v_limit, v_close, layer, headed, more, named, judged, in_more, in_want, zero_then, closed_as, boxed_as, turned_as, boxed, turned, operand, State, want, have, stopped, start, negated, back, with_both, with_either, closed, bang, opened, step, run, whole_of, whole}
+use Rattle.csl_syntax.specs.declared.formula.Bound.TheVariants.{Unbounded}
+use Rattle.csl_syntax.specs.Tree.{Tree, IsUpTo}
+use Rattle.csl_syntax.specs.Grammar.{BeginsWithin, Begins}
+use Rattle.csl_syntax.specs.Machine.{Layer, until_left, until_right, p_op, p_number, p_path, u_start, u_again, layer, more, named, judged, State, want, have, stopped, start, step, run}
 use Rattle.csl_syntax.specs.FormulaFault.{IsEnclosing}
-use Rattle.csl_syntax.specs.Machine.{in_have}
-use Rattle.decimal_text.proofs.FixedDigits.{ten_pos}
 use Rattle.csl_syntax.specs.declared.limits.TheConstants.{MOST_NESTED}
-use Rattle.csl_syntax.proofs.Endings.{IsGoing, limits, run-one, run-stopped, goes_on, stops, goes}
+use Rattle.csl_syntax.proofs.Endings.{IsGoing, limits, run-one, stops, goes}
 use Rattle.csl_syntax.proofs.Wider.{IsExpected}
 use Rattle.csl_syntax.proofs.Follows.{number_place, StopsFor, Follows, follows}
 use Rattle.csl_syntax.proofs.Stops.{unexpected, expected}
@@ -53,7 +49,7 @@ module _ (N T : ℕ) where
   after_op_of d s op (inl h) e = absurd (none_is_some op (sym (ap (λ v. number_place (run N T (start d) v)) h) ∙ e))
   after_op_of d s op (inr (front, t, h)) e =
       let i : number_place (step N T (run N T (start d) front) t) ≡ Some op =
-        sym (ap number_place (run-one N T (start d) front t)) ∙ sym (ap (λ v. number_place (run N T (start d) v)) h) ∙ e in
+      sym (ap number_place (run-one N T (start d) front t)) ∙ sym (ap (λ v. number_place (run N T (start d) v)) h) ∙ e in
       (front, h ∙ ap (λ v. front ++ v ∷ []) (step_place (run N T (start d) front) t op i))
 
   after_op : (d : ℕ) (s : List Token) (op : Op) → number_place (run N T (start d) s) ≡ Some op → (earlier : List Token) × (s ≡ earlier ++ Compare op ∷ [])

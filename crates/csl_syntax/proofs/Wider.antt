@@ -1,21 +1,16 @@
 -- Wider limits: the machine goes the same way, and where it was stopped by a limit it goes on.
-use Rattle.std.proofs.Common.{◌≡◌, ℕ, zero, suc, ◌+◌, ◌<◌, ◌≤◌, ◌*◌, ◌^◌, Bool, true, false, nat_lt, nat_le, List, [], ◌∷◌, ◌++◌, Option, Some, None, refl, sym, ◌∙◌, ap, subst, arith}
+use Rattle.std.proofs.Common.{◌≡◌, ℕ, zero, suc, ◌<◌, ◌≤◌, ◌*◌, ◌^◌, Bool, true, false, nat_lt, nat_le, List, [], ◌∷◌, Option, None, refl, sym, ◌∙◌, ap, subst, arith}
 use Rattle.std.proofs.lemmas.Bool.{lt-ltb, ltb-true, le-leb, leb-true}
 use Rattle.std.proofs.Math.Nat.{mul-le-mul_right, le_trans}
 use Rattle.decimal_text.specs.DecimalNumber.{DecimalNumber}
-use Rattle.csl_syntax.specs.declared.fault.FormulaWhat.{FormulaWhat}
 use Rattle.csl_syntax.specs.declared.fault.FormulaWhat.TheVariants as what
 use Rattle.csl_syntax.specs.declared.token.Token.{Token}
 use Rattle.csl_syntax.specs.declared.token.Token.TheVariants.{Truth, Falsehood, Name, ProbabilityWord, NextWord, UntilWord, Bang, AndAnd, OrOr, OpenParen, CloseParen, OpenBrace, CloseBrace, OpenBracket, CloseBracket, Comma, Tilde, Compare, Number}
 use Rattle.csl_syntax.specs.declared.formula.Op.{Op}
-use Rattle.csl_syntax.specs.declared.formula.Op.TheVariants.{Less}
-use Rattle.csl_syntax.specs.declared.formula.Bound.{Bound}
-use Rattle.csl_syntax.specs.declared.formula.Bound.TheVariants.{Unbounded, Time, Reward}
-use Rattle.csl_syntax.specs.Tree.{Tree, truth, falsehood, label, negation, conjunction, disjunction, next, until, IsUpTo}
-use Rattle.csl_syntax.specs.Grammar.{Limits, formula, conj, unary, atom, Derives, BeginsWithin, Begins, IsSpelled}
-use Rattle.csl_syntax.specs.Machine.{Layer, Kind, parens, of_next, until_left, until_right, Phase, p_brace, p_op, p_number, p_close, p_bracket, p_path, u_start, u_zero, u_comma, u_limit, u_close, u_any, u_again, v_zero, v_comma, v_limit, v_close, layer, headed, more, named, judged, in_more, in_want, zero_then, closed_as, boxed_as, turned_as, boxed, turned, operand, State, want, have, stopped, start, negated, back, with_both, with_either, closed, bang, opened, step, run, whole_of, whole}
-use Rattle.csl_syntax.proofs.Complete.{roomier}
-use Rattle.csl_syntax.proofs.Endings.{IsGoing, limits, run-append, run-one, run-stopped, goes_on, stops}
+use Rattle.csl_syntax.specs.declared.formula.Bound.TheVariants.{Unbounded}
+use Rattle.csl_syntax.specs.Tree.{Tree, truth, falsehood, label, next, until, IsUpTo}
+use Rattle.csl_syntax.specs.Machine.{Layer, Kind, parens, of_next, until_left, until_right, Phase, p_brace, p_op, p_number, p_close, p_bracket, p_path, u_start, u_zero, u_comma, u_limit, u_close, u_any, u_again, v_zero, v_comma, v_limit, v_close, layer, headed, more, named, judged, in_more, zero_then, closed_as, boxed_as, turned_as, boxed, turned, operand, State, want, have, stopped, start, negated, back, with_both, with_either, closed, bang, opened, step, run, whole}
+use Rattle.csl_syntax.proofs.Endings.{IsGoing, run-stopped}
 
 -- no limit stopped the machine
 abbrev pub IsFree : State → Type 0

@@ -3,11 +3,19 @@
 
 mod fault;
 mod formula;
+mod front;
 mod laws;
 mod limits;
+mod number;
+mod run;
+mod symbol;
 mod token;
+mod word;
 
 pub use fault::{FormulaFault, FormulaWhat, ParseFault};
 pub use formula::{Bound, Formula, Op};
-pub use laws::{formula_fault_is_one, formula_has_no_fault, formula_is_one, formula_or_fault, formulas_are_over_labels};
+pub use laws::{
+    formula_fault_is_one, formula_has_no_fault, formula_is_one, formula_or_fault,
+    formulas_are_over_labels,
+};
 pub use limits::{MOST_BYTES, MOST_NESTED};
