@@ -9,3 +9,4 @@ pub mod Laws
 -- what the parser's own functions say
 pub mod Scanner
 pub mod Machine
+pub mod View

@@ -1,13 +1,16 @@
 //! The formulas of the continuous stochastic logic: their texts, and what is wrong with a text that is none.
 #![tactic(auto)]
 
+mod build;
 mod fault;
 mod formula;
 mod front;
 mod laws;
 mod limits;
+mod machine;
 mod number;
 mod run;
+mod stop;
 mod symbol;
 mod token;
 mod word;
