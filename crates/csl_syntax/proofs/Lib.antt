@@ -13,3 +13,4 @@ pub mod Exponents
 pub mod Fronts
 pub mod Outcomes
 pub mod Scans
+pub mod Views

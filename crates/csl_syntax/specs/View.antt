@@ -12,10 +12,13 @@ use Rattle.csl_syntax.specs.declared.machine.Phase.{Phase as PhaseOf}
 use Rattle.csl_syntax.specs.declared.machine.Phase.TheVariants as phases
 use Rattle.csl_syntax.specs.declared.machine.Place.{Place}
 use Rattle.csl_syntax.specs.declared.machine.Place.TheVariants.{Before, After, Within}
+use Rattle.csl_syntax.specs.declared.lead.Lead.{Lead}
+use Rattle.csl_syntax.specs.declared.lead.Lead.TheVariants.{To, Into, With, Nowhere}
+use Rattle.csl_syntax.specs.declared.token.Token.{Token}
 use Rattle.csl_syntax.specs.declared.stop.Stop.{Stop}
 use Rattle.csl_syntax.specs.declared.stop.Stop.TheVariants.{Fails, Memory}
 use Rattle.csl_syntax.specs.Tree.{Tree, tree_of}
-use Rattle.csl_syntax.specs.Machine.{Layer, Kind, parens, of_next, until_left, until_right, Phase, p_brace, p_op, p_number, p_close, p_bracket, p_path, u_start, u_zero, u_comma, u_limit, u_close, u_any, u_again, v_zero, v_comma, v_limit, v_close, State, want, have, more, stopped}
+use Rattle.csl_syntax.specs.Machine.{Layer, Kind, parens, of_next, until_left, until_right, Phase, p_brace, p_op, p_number, p_close, p_bracket, p_path, u_start, u_zero, u_comma, u_limit, u_close, u_any, u_again, v_zero, v_comma, v_limit, v_close, layer, begin, in_more, State, want, have, more, stopped}
 
 abbrev pub tree_in : Option Formula → Option Tree
 tree_in None = None
@@ -90,3 +93,26 @@ bangs_at (Within p n) = suc n
 
 abbrev pub IsCounted : Machine → Type 0
 IsCounted m = IsFilled (bangs_at m.place) m.context
+
+-- a context within another: what the other encloses is part of a formula of the kind that is not at its end, after so many `!`
+pub record IsContextWithin (context : Context) (kind : Kind) (bangs : ℕ) (inner : Context) : Type 0 where
+  pub room : inner.room ≡ context.room
+  pub layers : outer_from [] inner.outer.items ≡ layer kind (tree_in context.either) (tree_in context.both) bangs ∷ outer_from [] context.outer.items
+  pub count : nested inner.outer.items ≡ nested context.outer.items + suc bangs
+  pub either : inner.either ≡ None
+  pub both : inner.both ≡ None
+
+-- of the formulas that are not at their end the innermost is of this kind, with this context and so many `!`
+pub record IsInnermost (outer : List Pending) (kind : Kind) (context : Context) (bangs : ℕ) : Type 0 where
+  pub layers : outer_from [] outer ≡ layer kind (tree_in context.either) (tree_in context.both) bangs ∷ outer_from [] context.outer.items
+  pub count : nested outer ≡ nested context.outer.items + suc bangs
+
+-- where a fixed part of a probability operator leads with the token
+abbrev pub led : ℕ → Lead → Token → ℕ → List Layer → Option Tree → Option Tree → ℕ → State
+led labels (To p) t d ls o a n = more (phase_of p) d ls o a n
+led labels (Into k) t d ls o a n = want d (layer (kind_of k) o a n ∷ ls) None None 0
+led labels (With k) t d ls o a n = begin labels 1 (kind_of k) t d ls o a n
+led labels (Nowhere w) t d ls o a n = stopped w
+
+abbrev pub Leads : Lead → Phase → Token → Type 0
+Leads l p t = (labels d : ℕ) (ls : List Layer) (o a : Option Tree) (n : ℕ) → led labels l t d ls o a n ≡ in_more labels 1 p t d ls o a n

@@ -2,14 +2,17 @@
 #![tactic(auto)]
 
 mod build;
+mod close;
 mod fault;
 mod formula;
 mod front;
 mod laws;
+mod lead;
 mod limits;
 mod machine;
 mod number;
 mod run;
+mod steps;
 mod stop;
 mod symbol;
 mod token;

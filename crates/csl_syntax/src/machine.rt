@@ -1,6 +1,8 @@
 // How far the tokens of a line are read.
 use crate::formula::{Bound, Formula, Op};
+use crate::limits::MOST_NESTED;
 use decimal_text::Decimal;
+use std::alloc::{AllocError, Global};
 
 // What a formula that is not at its end is part of.
 #[derive(Drop)]
@@ -69,4 +71,84 @@ pub struct Context {
 pub struct Machine {
     pub context: Context,
     pub place: Place,
+}
+
+impl Context {
+    ghost use Rattle.std.specs.Prelude.{◌≡◌, suc, ◌<◌, IfOk};
+    ghost use Rattle.csl_syntax.specs.View.{kind_of, IsContextWithin};
+
+    // The context of a formula that begins within the one at this place, which is of the kind, after so many `!`.
+    pub fn with_another(self, kind: Kind, bangs: u32) -> Result<Context, AllocError>
+        ensures { IfOk result (λ x. IsContextWithin self (kind_of kind) bangs x) }
+    {
+        let Context {
+            room,
+            mut outer,
+            either,
+            both,
+        } = self;
+        outer.push(Pending {
+            kind,
+            either,
+            both,
+            bangs,
+        })?;
+        Ok(Context {
+            room,
+            outer,
+            either: None,
+            both: None,
+        })
+    }
+
+    // The context with the room of one construct more, which is at its end.
+    pub fn freed(self) -> Context
+        requires { self.room < MOST_NESTED }
+        ensures room { result.room ≡ suc self.room }
+        ensures same { result ≡ record self { room = result.room } }
+    {
+        let Context {
+            room,
+            outer,
+            either,
+            both,
+        } = self;
+        Context {
+            room: room + 1,
+            outer,
+            either,
+            both,
+        }
+    }
+}
+
+impl Machine {
+    ghost use Rattle.std.specs.Prelude.{◌≡◌, [], None};
+    ghost use Rattle.csl_syntax.specs.Machine.{start, want};
+    ghost use Rattle.csl_syntax.specs.View.{state_of, in_context, IsCounted, IsFilled};
+
+    // Before the first token.
+    pub fn new(alloc: Global) -> Machine
+        ensures state { state_of result ≡ start MOST_NESTED }
+        ensures counted { IsCounted result }
+    {
+        Machine::before(Context {
+            room: MOST_NESTED,
+            outer: Vec::new(alloc),
+            either: None,
+            both: None,
+        })
+    }
+
+    // Where an operand must come, after no `!`.
+    pub fn before(context: Context) -> Machine
+        requires { IsFilled 0 context }
+        ensures state { state_of result ≡ in_context context (λ d ls o a. want d ls o a 0) }
+        ensures counted { IsCounted result }
+    {
+        Machine {
+            context,
+            place: Place::Before(0),
+        }
+    }
 }
