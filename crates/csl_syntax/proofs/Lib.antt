@@ -14,3 +14,4 @@ pub mod Fronts
 pub mod Outcomes
 pub mod Scans
 pub mod Views
+pub mod Parses

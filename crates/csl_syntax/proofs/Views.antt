@@ -1,11 +1,9 @@
 -- Lemmas on what a machine stands for.
-use Rattle.std.proofs.Common.{◌≡◌, ℕ, zero, suc, ◌+◌, ◌<◌, ◌≤◌, Option, Some, None, List, [], ◌∷◌, ◌++◌, length, refl, sym, ◌∙◌, ap, arith}
-use Rattle.csl_syntax.specs.declared.machine.Context.{Context}
-use Rattle.csl_syntax.specs.declared.machine.Kind.{Kind as KindOf}
+use Rattle.std.proofs.Common.{◌≡◌, ℕ, zero, suc, ◌+◌, Option, List, [], ◌∷◌, ◌++◌, refl, sym, ◌∙◌, ap, arith}
 use Rattle.csl_syntax.specs.declared.machine.Pending.{Pending}
 use Rattle.csl_syntax.specs.Tree.{Tree}
-use Rattle.csl_syntax.specs.Machine.{Layer, State, have, negated, back, operand}
-use Rattle.csl_syntax.specs.View.{layer_of, outer_from, nested, in_context, kind_of}
+use Rattle.csl_syntax.specs.Machine.{Layer, have, negated, back, operand}
+use Rattle.csl_syntax.specs.View.{layer_of, outer_from, nested}
 
 pub outer_from-append : (ls : List Layer) (xs : List Pending) (x : Pending) → outer_from ls (xs ++ x ∷ []) ≡ layer_of x ∷ outer_from ls xs
 outer_from-append ls [] x = refl

@@ -10,3 +10,4 @@ pub mod Laws
 pub mod Scanner
 pub mod Machine
 pub mod View
+pub mod Parsing

@@ -1,6 +1,5 @@
 -- The state of the machine that a value of the code stands for.
 use Rattle.std.specs.Prelude.{◌≡◌, ℕ, suc, ◌+◌, List, [], ◌∷◌, Option, Some, None, Result, Ok, Err, ⊤}
-use Rattle.csl_syntax.specs.declared.fault.FormulaWhat.{FormulaWhat}
 use Rattle.csl_syntax.specs.declared.formula.Formula.{Formula}
 use Rattle.csl_syntax.specs.declared.limits.TheConstants.{MOST_NESTED}
 use Rattle.csl_syntax.specs.declared.machine.Context.{Context}

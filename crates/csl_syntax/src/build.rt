@@ -31,10 +31,7 @@ pub fn with_both(
 {
     match both {
         None => Ok(formula),
-        Some(left) => Ok(Formula::And(
-            Box::new(alloc, left)?,
-            Box::new(alloc, formula)?,
-        )),
+        Some(left) => Ok(Formula::And(Box::new(alloc, left)?, Box::new(alloc, formula)?)),
     }
 }
 
@@ -48,10 +45,7 @@ fn with_either(
 {
     match either {
         None => Ok(formula),
-        Some(left) => Ok(Formula::Or(
-            Box::new(alloc, left)?,
-            Box::new(alloc, formula)?,
-        )),
+        Some(left) => Ok(Formula::Or(Box::new(alloc, left)?, Box::new(alloc, formula)?)),
     }
 }
 

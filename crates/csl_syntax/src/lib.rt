@@ -11,6 +11,7 @@ mod lead;
 mod limits;
 mod machine;
 mod number;
+mod parser;
 mod run;
 mod steps;
 mod stop;
@@ -25,3 +26,4 @@ pub use laws::{
     formulas_are_over_labels,
 };
 pub use limits::{MOST_BYTES, MOST_NESTED};
+pub use parser::parse;

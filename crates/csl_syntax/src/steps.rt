@@ -1,7 +1,7 @@
 // One token.
-ghost use Rattle.std.specs.Prelude.{ℕ, ◌+◌, ◌∷◌, None, IfOk};
+ghost use Rattle.std.specs.Prelude.{◌≡◌, ℕ, ◌+◌, ◌∷◌, None, IfOk};
 ghost use Rattle.csl_syntax.specs.Tree.{tree_of};
-ghost use Rattle.csl_syntax.specs.Machine.{step, operand, bang, opened, headed, want, layer, in_want, in_have, in_more, begin};
+ghost use Rattle.csl_syntax.specs.Machine.{step, operand, bang, opened, headed, want, more, layer, in_want, in_have, in_more, begin};
 ghost use Rattle.csl_syntax.specs.View.{in_context, state_of, kind_of, phase_of, IsFilled, IsCounted, Goes};
 
 use crate::build::{joined, negated, with_both};
@@ -198,24 +198,30 @@ fn within(
     ensures gives { Goes result (in_context context (λ d ls o a. in_more labels 1 (phase_of phase) token d ls o a bangs)) }
     ensures counted { IfOk result IsCounted }
 {
-    match lead_from(phase, token) {
-        Lead::To(next) => Ok(Machine {
-            context,
-            place: Place::Within(next, bangs),
-        }),
+    // The token may begin a formula too.
+    let first = token;
+    match lead_from(phase, first) {
+        Lead::To(next) => Ok(further(next, context, bangs)),
         Lead::Into(kind) => inner(kind, context, bangs),
         Lead::With(kind) => inner_with(alloc, labels, kind, token, context, bangs),
         Lead::Nowhere(what) => Err(Stop::Fails(what)),
     }
 }
 
+// Within the next of the fixed parts.
+fn further(phase: Phase, context: Context, bangs: u32) -> Machine
+    requires { IsFilled (bangs + 1) context }
+    ensures gives { state_of result ≡ in_context context (λ d ls o a. more (phase_of phase) d ls o a bangs) }
+    ensures counted { IsCounted result }
+{
+    Machine {
+        context,
+        place: Place::Within(phase, bangs),
+    }
+}
+
 // A token after an operand.
-fn after(
-    alloc: Global,
-    token: Token,
-    context: Context,
-    formula: Formula,
-) -> Result<Machine, Stop>
+fn after(alloc: Global, token: Token, context: Context, formula: Formula) -> Result<Machine, Stop>
     requires { IsFilled 0 context }
     ensures gives { (labels : ℕ) → Goes result (in_context context (λ d ls o a. in_have labels 1 token d ls o a (tree_of formula))) }
     ensures counted { IfOk result IsCounted }

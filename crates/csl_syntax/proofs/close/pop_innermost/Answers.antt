@@ -4,8 +4,10 @@ use Rattle.csl_syntax.proofs.close.pop_innermost.Goals as goal
 
 pub returns : goal.returns
 returns c =
-    let pending = c.in_ok-pending in
-    (record {
+    let pending = c.in_ok-pending in (
+      record {
         layers = outer_with c.pop.new.self.items c.args.outer.items pending.pending pending.ensures.items;
         count = nested_with c.pop.new.self.items c.args.outer.items pending.pending pending.ensures.items;
-      }, refl)
+      },
+      refl,
+    )
