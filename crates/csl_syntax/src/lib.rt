@@ -16,6 +16,8 @@ mod run;
 mod steps;
 mod stop;
 mod symbol;
+#[cfg(test)]
+mod tests;
 mod token;
 mod word;
 
