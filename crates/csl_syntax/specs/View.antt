@@ -17,7 +17,9 @@ use Rattle.csl_syntax.specs.declared.token.Token.{Token}
 use Rattle.csl_syntax.specs.declared.stop.Stop.{Stop}
 use Rattle.csl_syntax.specs.declared.stop.Stop.TheVariants.{Fails, Memory}
 use Rattle.csl_syntax.specs.Tree.{Tree, tree_of}
-use Rattle.csl_syntax.specs.Machine.{Layer, Kind, parens, of_next, until_left, until_right, Phase, p_brace, p_op, p_number, p_close, p_bracket, p_path, u_start, u_zero, u_comma, u_limit, u_close, u_any, u_again, v_zero, v_comma, v_limit, v_close, layer, begin, in_more, State, want, have, more, stopped}
+use Rattle.csl_syntax.specs.Machine.{Layer, Kind, parens, of_next, until_left, until_right, Phase, p_brace, p_op, p_number, p_close}
+use Rattle.csl_syntax.specs.Machine.{p_bracket, p_path, u_start, u_zero, u_comma, u_limit, u_close, u_any, u_again, v_zero, v_comma}
+use Rattle.csl_syntax.specs.Machine.{v_limit, v_close, layer, begin, in_more, State, want, have, more, stopped}
 
 abbrev pub tree_in : Option Formula → Option Tree
 tree_in None = None
@@ -96,7 +98,8 @@ IsCounted m = IsFilled (bangs_at m.place) m.context
 -- a context within another: what the other encloses is part of a formula of the kind that is not at its end, after so many `!`
 pub record IsContextWithin (context : Context) (kind : Kind) (bangs : ℕ) (inner : Context) : Type 0 where
   pub room : inner.room ≡ context.room
-  pub layers : outer_from [] inner.outer.items ≡ layer kind (tree_in context.either) (tree_in context.both) bangs ∷ outer_from [] context.outer.items
+  pub layers : outer_from [] inner.outer.items ≡ layer kind (tree_in context.either) (tree_in context.both) bangs ∷ outer_from []
+      context.outer.items
   pub count : nested inner.outer.items ≡ nested context.outer.items + suc bangs
   pub either : inner.either ≡ None
   pub both : inner.both ≡ None

@@ -24,7 +24,9 @@ pub fn first_token<'a>(bytes: &'a [u8], labels: &[Name]) -> Result<Front<'a>, Fo
     requires some { 0 < length bytes.now }
     requires solid { IsTrue (not (is_blank (slice_index bytes.now 0))) }
     requires labels { length labels.now < 2 ^ 32 }
-    ensures { MatchResult result (λ front. BeginsWithToken labels.now bytes.now front.token front.rest.now) (FailsAtHead bytes.now) }
+    ensures { MatchResult result
+        (λ front. BeginsWithToken labels.now bytes.now front.token front.rest.now)
+        (FailsAtHead bytes.now) }
 {
     let first = bytes[0];
     if begins_word(first) {
@@ -52,7 +54,8 @@ pub fn skip_blanks(bytes: &[u8]) -> &[u8]
 // How many blanks stand before the first byte that is none; nothing where there is no such byte.
 fn leading_blanks(bytes: &[u8]) -> Option<usize>
     ensures { MatchOption result (All (λ b. IsTrue (is_blank b)) bytes.now)
-        (λ n. (n < length bytes.now) × All (λ b. IsTrue (is_blank b)) (take n bytes.now) × IsTrue (not (is_blank (slice_index bytes.now n)))) }
+        (λ n. (n < length bytes.now) × All (λ b. IsTrue (is_blank b)) (take n bytes.now)
+        × IsTrue (not (is_blank (slice_index bytes.now n)))) }
 {
     bytes.iter().position(|byte| !is_blank(*byte))
 }

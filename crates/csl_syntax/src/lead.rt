@@ -1,7 +1,8 @@
 // Where a fixed part of a probability operator leads.
-ghost use Rattle.std.specs.Prelude.{◌≡◌, ◌*◌, ◌^◌, nat_le};
+ghost use Rattle.std.specs.Prelude.{◌≡◌, ◌*◌, ◌^◌, ◌↔◌, nat_le, IsTrue};
 ghost use Rattle.csl_syntax.specs.Tree.{tree_of};
-ghost use Rattle.csl_syntax.specs.Machine.{p_brace, p_op, p_number, p_close, p_bracket, p_path, u_start, u_zero, u_comma, u_limit, u_close, u_any, u_again, v_zero, v_comma, v_limit, v_close};
+ghost use Rattle.csl_syntax.specs.Machine.{p_brace, p_op, p_number, p_close, p_bracket, p_path, u_start, u_zero, u_comma};
+ghost use Rattle.csl_syntax.specs.Machine.{u_limit, u_close, u_any, u_again, v_zero, v_comma, v_limit, v_close};
 ghost use Rattle.csl_syntax.specs.View.{phase_of, Leads};
 
 use crate::fault::FormulaWhat;
@@ -86,6 +87,12 @@ fn is_at_most_one(number: Decimal) -> bool
     number.c <= 10u64.pow(number.x)
 }
 
+fn is_zero(number: Decimal) -> bool
+    ensures { IsTrue result ↔ (number.c ≡ 0) }
+{
+    number.c == 0
+}
+
 fn close_brace(op: Op, number: Decimal, token: Token) -> Lead
     ensures { Leads result (p_close op number) token }
 {
@@ -127,7 +134,7 @@ fn zero(op: Op, number: Decimal, left: Formula, token: Token) -> Lead
 {
     match token {
         Token::Number(first) => {
-            if first.c == 0 {
+            if is_zero(first) {
                 Lead::To(Phase::Comma(op, number, left))
             } else {
                 Lead::Nowhere(FormulaWhat::Expected)
@@ -190,7 +197,7 @@ fn reward_zero(op: Op, number: Decimal, left: Formula, token: Token) -> Lead
 {
     match token {
         Token::Number(first) => {
-            if first.c == 0 {
+            if is_zero(first) {
                 Lead::To(Phase::RewardComma(op, number, left))
             } else {
                 Lead::Nowhere(FormulaWhat::Expected)

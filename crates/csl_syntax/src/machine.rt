@@ -74,7 +74,7 @@ pub struct Machine {
 }
 
 impl Context {
-    ghost use Rattle.std.specs.Prelude.{◌≡◌, suc, ◌<◌, IfOk};
+    ghost use Rattle.std.specs.Prelude.{◌≡◌, suc, ◌<◌, IfOk, MatchOption};
     ghost use Rattle.csl_syntax.specs.View.{kind_of, IsContextWithin};
 
     // The context of a formula that begins within the one at this place, which is of the kind, after so many `!`.
@@ -98,6 +98,27 @@ impl Context {
             outer,
             either: None,
             both: None,
+        })
+    }
+
+    // The context with the room of one construct fewer, which begins; nothing where there is no room.
+    pub fn narrowed(self) -> Option<Context>
+        ensures { MatchOption result (self.room ≡ 0) (λ x. (self.room ≡ suc x.room) × (x ≡ record self { room = x.room })) }
+    {
+        let Context {
+            room,
+            outer,
+            either,
+            both,
+        } = self;
+        if room == 0 {
+            return None;
+        }
+        Some(Context {
+            room: room - 1,
+            outer,
+            either,
+            both,
         })
     }
 

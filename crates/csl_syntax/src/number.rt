@@ -4,7 +4,8 @@ ghost use Rattle.std.specs.Char.{is_ascii_digit};
 ghost use Rattle.decimal_text.specs.Reading.{BeginsWithNoLetter, BeginsWithLetter};
 ghost use Rattle.csl_syntax.specs.TokenText.{is_digit_or_point};
 ghost use Rattle.csl_syntax.specs.Tokens.{BeginsWithToken};
-ghost use Rattle.csl_syntax.specs.Scanner.{EndsRun, BeginsWithDigits, BeginsWithExponent, HasNoExponent, BeginsWithNoSign, BeginsWithSign, SplitsNumber, FailsAtHead};
+ghost use Rattle.csl_syntax.specs.Scanner.{EndsRun, BeginsWithDigits, BeginsWithExponent, HasNoExponent};
+ghost use Rattle.csl_syntax.specs.Scanner.{BeginsWithNoSign, BeginsWithSign, SplitsNumber, FailsAtHead};
 
 use crate::fault::FormulaWhat;
 use crate::front::Front;

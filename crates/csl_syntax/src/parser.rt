@@ -107,7 +107,9 @@ fn advance<'a>(
     requires solid { IsTrue (not (is_blank (slice_index rest.now 0))) }
     requires labels { length labels.now < 2 ^ 32 }
     requires counted { IsCounted machine }
-    ensures { MatchResult result (λ a. Advances labels.now machine rest.now a.machine a.rest.now) (StopsAtHead labels.now machine rest.now) }
+    ensures { MatchResult result
+        (λ a. Advances labels.now machine rest.now a.machine a.rest.now)
+        (StopsAtHead labels.now machine rest.now) }
 {
     let front = match first_token(rest, labels) {
         Ok(front) => front,

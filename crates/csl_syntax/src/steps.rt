@@ -91,24 +91,13 @@ fn bang(context: Context, bangs: u32) -> Result<Machine, Stop>
     ensures gives { Goes result (in_context context (λ d ls o a. bang d ls o a bangs)) }
     ensures counted { IfOk result IsCounted }
 {
-    let Context {
-        room,
-        outer,
-        either,
-        both,
-    } = context;
-    if room == 0 {
-        return Err(Stop::Fails(FormulaWhat::Depth));
+    match context.narrowed() {
+        None => Err(Stop::Fails(FormulaWhat::Depth)),
+        Some(context) => Ok(Machine {
+            context,
+            place: Place::Before(bangs + 1),
+        }),
     }
-    Ok(Machine {
-        context: Context {
-            room: room - 1,
-            outer,
-            either,
-            both,
-        },
-        place: Place::Before(bangs + 1),
-    })
 }
 
 fn open(context: Context, bangs: u32) -> Result<Machine, Stop>
@@ -116,22 +105,10 @@ fn open(context: Context, bangs: u32) -> Result<Machine, Stop>
     ensures gives { Goes result (in_context context (λ d ls o a. opened d ls o a bangs)) }
     ensures counted { IfOk result IsCounted }
 {
-    let Context {
-        room,
-        outer,
-        either,
-        both,
-    } = context;
-    if room == 0 {
-        return Err(Stop::Fails(FormulaWhat::Depth));
+    match context.narrowed() {
+        None => Err(Stop::Fails(FormulaWhat::Depth)),
+        Some(context) => inner(Kind::Parens, context, bangs),
     }
-    let context = Context {
-        room: room - 1,
-        outer,
-        either,
-        both,
-    };
-    inner(Kind::Parens, context, bangs)
 }
 
 fn head(context: Context, bangs: u32) -> Result<Machine, Stop>
@@ -139,24 +116,10 @@ fn head(context: Context, bangs: u32) -> Result<Machine, Stop>
     ensures gives { Goes result (in_context context (λ d ls o a. headed d ls o a bangs)) }
     ensures counted { IfOk result IsCounted }
 {
-    let Context {
-        room,
-        outer,
-        either,
-        both,
-    } = context;
-    if room == 0 {
-        return Err(Stop::Fails(FormulaWhat::Depth));
+    match context.narrowed() {
+        None => Err(Stop::Fails(FormulaWhat::Depth)),
+        Some(context) => Ok(further(Phase::Brace, context, bangs)),
     }
-    Ok(Machine {
-        context: Context {
-            room: room - 1,
-            outer,
-            either,
-            both,
-        },
-        place: Place::Within(Phase::Brace, bangs),
-    })
 }
 
 // A formula begins within another.

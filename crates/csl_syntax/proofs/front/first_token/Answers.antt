@@ -6,4 +6,5 @@ use Rattle.csl_syntax.proofs.front.first_token.Goals as goal
 pub returns-in-None : goal.returns-in-None
 returns-in-None c =
     nothing_here c.args.bytes.now c.requires.some (not_so (is_blank (slice_index c.args.bytes.now 0)) c.requires.solid)
-    (sym c.begins_word.ensures ∙ c.if-begins_word.false) (sym c.is_digit_or_point.ensures ∙ c.if-is_digit_or_point.false) c.in-None.ensures
+    (sym c.begins_word.ensures ∙ c.if-begins_word.false) (sym c.is_digit_or_point.ensures ∙ c.if-is_digit_or_point.false)
+    c.in-None.ensures

@@ -6,7 +6,8 @@ pub returns-in-None : goal.returns-in-None
 returns-in-None c =
     let run = c.split_run in
     number_alone c.args.bytes.now run.result.0.now run.result.1.now c.requires.some c.requires.starts
-    (splits_run is_digit_or_point c.args.bytes.now run.result.0.now run.result.1.now run.ensures.split run.ensures.all run.ensures.ends) c.in-None.ensures
+    (splits_run is_digit_or_point c.args.bytes.now run.result.0.now run.result.1.now run.ensures.split run.ensures.all run.ensures.ends)
+    c.in-None.ensures
 
 pub returns-in-Some : goal.returns-in-Some
 returns-in-Some c =

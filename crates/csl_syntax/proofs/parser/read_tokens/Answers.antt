@@ -18,8 +18,10 @@ pub loop-rest-smaller : goal.loop-rest-smaller
 loop-rest-smaller c =
     let skip = c.skip_blanks-rest-in-Ok in
     let advanced = c.in-Ok.advanced in
-    let shorter = advance_length c.args.labels.now c.loop-rest.machine c.loop-rest.rest.now advanced.machine advanced.rest.now c.in-Ok.ensures in
-    let e : length skip.result.now < length c.loop-rest.rest.now = omega (arith, skip_length advanced.rest.now skip.result.now skip.ensures, shorter) in
+    let shorter =
+    advance_length c.args.labels.now c.loop-rest.machine c.loop-rest.rest.now advanced.machine advanced.rest.now c.in-Ok.ensures in
+    let e : length skip.result.now < length c.loop-rest.rest.now =
+    omega (arith, skip_length advanced.rest.now skip.result.now skip.ensures, shorter) in
     e
 
 pub loop-rest-preserved : goal.loop-rest-preserved
@@ -31,12 +33,14 @@ loop-rest-preserved c =
     let shorter = advance_length labels c.loop-rest.machine c.loop-rest.rest.now advanced.machine advanced.rest.now c.in-Ok.ensures in
     record {
       reads = read_on labels line advanced.rest.now skip.result.now advanced.machine
-          (read_more labels line c.loop-rest.rest.now advanced.rest.now c.loop-rest.machine advanced.machine c.loop-rest.invariant.reads c.in-Ok.ensures) skip.ensures;
+          (read_more labels line c.loop-rest.rest.now advanced.rest.now c.loop-rest.machine advanced.machine c.loop-rest.invariant.reads
+          c.in-Ok.ensures) skip.ensures;
       within = omega (arith, skip_length advanced.rest.now skip.result.now skip.ensures, shorter, c.loop-rest.invariant.within);
       solid = skip.ensures.ends;
     }
 
 pub returns-in-Err : goal.returns-in-Err
 returns-in-Err c =
-    told_is c.args.labels.now c.args.line.now c.loop-rest.rest.now c.loop-rest.machine c.in-Err.stop c.told.result c.loop-rest.invariant.reads c.requires.short
+    told_is c.args.labels.now c.args.line.now c.loop-rest.rest.now c.loop-rest.machine c.in-Err.stop c.told.result
+    c.loop-rest.invariant.reads c.requires.short
     c.loop-rest.invariant.within c.in-Err.ensures c.told.ensures

@@ -14,6 +14,7 @@ returns c =
     record {
       text = run.result.0.now;
       longest = word_stands c.args.bytes.now run.result.0.now run.result.1.now c.requires.some c.requires.starts
-          (splits_run continues_name c.args.bytes.now run.result.0.now run.result.1.now run.ensures.split run.ensures.all run.ensures.ends);
+          (splits_run continues_name c.args.bytes.now run.result.0.now run.result.1.now run.ensures.split run.ensures.all
+          run.ensures.ends);
       writes = c.word_token.ensures;
     }
