@@ -1,0 +1,17 @@
+pub mod Complete
+pub mod Sound
+pub mod Endings
+pub mod Wider
+pub mod Stops
+pub mod Follows
+pub mod TokenFaults
+pub mod Runs
+pub mod LongestTokens
+pub mod OneToken
+pub mod Scanning
+pub mod Exponents
+pub mod Fronts
+pub mod Outcomes
+pub mod Scans
+pub mod Views
+pub mod Parses
