@@ -12,3 +12,4 @@ pub mod Scanning
 pub mod Exponents
 pub mod Fronts
 pub mod Outcomes
+pub mod Pending

@@ -9,3 +9,5 @@ pub mod Laws
 -- what the parser's own functions say
 pub mod Scanner
 pub mod Machine
+-- what the printer's own functions say
+pub mod Pieces
