@@ -13,3 +13,5 @@ pub mod Exponents
 pub mod Fronts
 pub mod Outcomes
 pub mod Pending
+pub mod CanonicalTokens
+pub mod CanonicalShort
