@@ -15,3 +15,5 @@ pub mod Outcomes
 pub mod Pending
 pub mod CanonicalTokens
 pub mod CanonicalShort
+pub mod CanonicalNumbers
+pub mod CanonicalText
