@@ -1,5 +1,5 @@
 -- A decimal's text is the text of a number token.
-use Rattle.std.proofs.Common.{◌≡◌, ◌≢◌, ℕ, zero, suc, ◌/◌, ◌%◌, ◌^◌, ◌<◌, ◌≤◌, ◌⊎◌, inl, inr, Bool, true, false, None, List, [], ◌∷◌, ◌++◌, length, refl, sym, ◌∙◌, ap, subst, arith, append-nil}
+use Rattle.std.proofs.Common.{◌≡◌, ◌≢◌, ℕ, zero, suc, ◌/◌, ◌%◌, ◌^◌, ◌<◌, ◌⊎◌, inl, inr, true, false, None, List, [], ◌∷◌, ◌++◌, length, refl, sym, ◌∙◌, ap, subst, arith, append-nil}
 use Rattle.std.specs.Prelude.{codes}
 use Rattle.std.specs.Char.{is_ascii_digit}
 use Rattle.std.specs.Fmt.{decimal, digits}
@@ -15,7 +15,7 @@ use Rattle.decimal_text.proofs.CanonicalTexts.{text-whole, text-point, text_stan
 use Rattle.decimal_text.proofs.FixedDigits.{AllDigits-fixed_digits}
 use Rattle.text_lines.specs.Name.{begins_name}
 use Rattle.csl_syntax.specs.TokenText.{is_digit_or_point, IsNumberText, IsTokenBefore}
-use Rattle.csl_syntax.proofs.Runs.{true_is_false, both_ways, and_left, and_right, and_both, same_first, digit_is_in_run, digits_are}
+use Rattle.csl_syntax.proofs.Runs.{both_ways, and_left, and_right, and_both, same_first, digit_is_in_run, digits_are}
 use Rattle.csl_syntax.proofs.LongestTokens.{EndsNumber, number_before}
 use Rattle.csl_syntax.proofs.Exponents.{no_letter}
 use Rattle.csl_syntax.proofs.CanonicalTokens.{nought}
@@ -32,13 +32,13 @@ all-append : (xs ys : List ℕ) → list_all is_digit_or_point xs ≡ true → l
 all-append [] ys h g = g
 all-append (x ∷ xs) ys h g =
     and_both (is_digit_or_point x) (list_all is_digit_or_point (xs ++ ys)) (and_left (is_digit_or_point x) (list_all is_digit_or_point xs) h)
-      (all-append xs ys (and_right (is_digit_or_point x) (list_all is_digit_or_point xs) h) g)
+    (all-append xs ys (and_right (is_digit_or_point x) (list_all is_digit_or_point xs) h) g)
 
 in_run : (ds : List ℕ) → list_all is_ascii_digit ds ≡ true → list_all is_digit_or_point ds ≡ true
 in_run [] h = refl
 in_run (d ∷ ds) h =
     and_both (is_digit_or_point d) (list_all is_digit_or_point ds) (digit_is_in_run d (and_left (is_ascii_digit d) (list_all is_ascii_digit ds) h))
-      (in_run ds (and_right (is_ascii_digit d) (list_all is_ascii_digit ds) h))
+    (in_run ds (and_right (is_ascii_digit d) (list_all is_ascii_digit ds) h))
 
 nothing_below : 0 < 0 → ⊥
 nothing_below h = omega (arith, h)
@@ -67,7 +67,7 @@ parts_text : (c x : ℕ) → c < 2 ^ 64 → IsDigitsAndPoints (point_text c x)
 parts_text c x l =
     let high : c / 10 ^ x < 2 ^ 64 = omega (arith, div-le_self c (10 ^ x)) in
     decimal_then (c / 10 ^ x) (46 ∷ fixed_digits x (c % 10 ^ x)) high
-      (in_run (fixed_digits x (c % 10 ^ x)) (digits_are (fixed_digits x (c % 10 ^ x)) (AllDigits-fixed_digits x (c % 10 ^ x))))
+    (in_run (fixed_digits x (c % 10 ^ x)) (digits_are (fixed_digits x (c % 10 ^ x)) (AllDigits-fixed_digits x (c % 10 ^ x))))
 
 text_by : (c x : ℕ) → c < 2 ^ 64 → (x ≡ 0) ⊎ (x ≢ 0) → IsDigitsAndPoints (canonical_text record { c = c; x = x })
 text_by c x l (inl e) = subst IsDigitsAndPoints (sym (text-whole record { c = c; x = x } e)) (whole_text c l)
@@ -106,9 +106,10 @@ no_letter_starts b l h e (inr k) = both_ways (begins_name b) (ap begins_name (e 
 
 -- a byte that is in no number and no name ends a number
 pub ends_number : (b : ℕ) (more : List ℕ) → is_digit_or_point b ≡ false → begins_name b ≡ false → EndsNumber None (b ∷ more)
-ends_number b more h g =
-    ( λ c r e. ap is_digit_or_point (sym (same_first b c more r e)) ∙ h
-    , no_letter (b ∷ more) (λ l r e k. no_letter_starts b l g (same_first b l more r e) k))
+ends_number b more h g = (
+  λ c r e. ap is_digit_or_point (sym (same_first b c more r e)) ∙ h,
+  no_letter (b ∷ more) (λ l r e k. no_letter_starts b l g (same_first b l more r e) k),
+)
 
 short_nought : IsShortDecimal nought
 short_nought = record { below = omega arith; decimals = omega arith; normal = λ h. absurd (nothing_below h) }

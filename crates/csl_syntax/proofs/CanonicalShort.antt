@@ -1,13 +1,13 @@
 -- The numbers of a formula that was read are short decimals.
-use Rattle.std.proofs.Common.{◌≡◌, ℕ, List, [], ◌∷◌}
+use Rattle.std.proofs.Common.{ℕ, List, [], ◌∷◌}
 use Rattle.std.specs.Prelude.{⊤}
-use Rattle.decimal_text.specs.DecimalNumber.{DecimalNumber, IsShortDecimal}
+use Rattle.decimal_text.specs.DecimalNumber.{IsShortDecimal}
 use Rattle.csl_syntax.specs.declared.formula.Bound.{Bound}
 use Rattle.csl_syntax.specs.declared.formula.Bound.TheVariants.{Unbounded, Time, Reward}
 use Rattle.csl_syntax.specs.declared.token.Token.{Token}
 use Rattle.csl_syntax.specs.declared.token.Token.TheVariants.{Number}
 use Rattle.csl_syntax.specs.Tree.{Tree, truth, falsehood, label, negation, conjunction, disjunction, next, until}
-use Rattle.csl_syntax.specs.Tokens.{Writes, BeginsWithToken, HasTokens, no_more, skip, take_token}
+use Rattle.csl_syntax.specs.Tokens.{Writes, HasTokens, no_more, skip, take_token}
 use Rattle.csl_syntax.specs.Grammar.{Level, IsBound, no_bound, any_time, in_time, in_reward, Derives, a_truth, a_falsehood, a_name, in_parens, a_next, an_until, a_not, an_atom, an_and, a_unary, an_or, a_conj}
 
 abbrev pub IsShortToken : Token → Type 0

@@ -1,13 +1,12 @@
 -- What was read is spelled again by its canonical tokens, within the same limits.
-use Rattle.std.proofs.Common.{◌≡◌, ℕ, suc, ◌≤◌, Bool, true, false, List, [], ◌∷◌, refl, arith}
+use Rattle.std.proofs.Common.{ℕ, suc, ◌≤◌, Bool, true, false, List, [], ◌∷◌, refl, arith}
 use Rattle.decimal_text.specs.DecimalNumber.{DecimalNumber}
-use Rattle.csl_syntax.specs.declared.formula.Op.{Op}
 use Rattle.csl_syntax.specs.declared.formula.Bound.{Bound}
 use Rattle.csl_syntax.specs.declared.formula.Bound.TheVariants.{Unbounded, Time, Reward}
 use Rattle.csl_syntax.specs.declared.token.Token.{Token}
 use Rattle.csl_syntax.specs.declared.token.Token.TheVariants.{Truth, Falsehood, Name, NextWord, UntilWord, Bang, AndAnd, OrOr, OpenParen, CloseParen, OpenBracket, CloseBracket, Comma, Tilde, Number}
 use Rattle.csl_syntax.specs.Tree.{Tree, truth, falsehood, label, negation, conjunction, disjunction, next, until}
-use Rattle.csl_syntax.specs.Grammar.{Level, formula, conj, unary, atom, operator, IsBound, no_bound, any_time, in_time, in_reward, Derives, a_truth, a_falsehood, a_name, in_parens, a_next, an_until, a_not, an_atom, an_and, a_unary, an_or, a_conj}
+use Rattle.csl_syntax.specs.Grammar.{Level, formula, conj, unary, atom, operator, IsBound, no_bound, in_time, in_reward, Derives, a_truth, a_falsehood, a_name, in_parens, a_next, an_until, a_not, an_atom, an_and, a_unary, an_or, a_conj}
 use Rattle.csl_syntax.specs.CanonicalText.{is_disjunction, is_junction}
 use Rattle.csl_syntax.proofs.Complete.{roomier}
 
@@ -116,7 +115,7 @@ module _ (N T : ℕ) where
       let e = again x in
       let e2 = again y in
       let p : Plain (suc d) (until op q f b g) =
-          λ r. an_atom (an_until h (e.1 _) (bound_again b (spelling g (CloseBracket ∷ r))) (e2.1 (CloseBracket ∷ r))) in
+      λ r. an_atom (an_until h (e.1 _) (bound_again b (spelling g (CloseBracket ∷ r))) (e2.1 (CloseBracket ∷ r))) in
       (p, λ r. p r)
   again (a_not {d} {f} x) = let e = again x in (λ r. a_not (e.1 r), λ r. a_not (e.1 r))
   again (an_atom x) = again x

@@ -12,8 +12,9 @@ pub mod Scanning
 pub mod Exponents
 pub mod Fronts
 pub mod Outcomes
-pub mod Pending
+pub mod PrintPending
 pub mod CanonicalTokens
 pub mod CanonicalShort
 pub mod CanonicalNumbers
-pub mod CanonicalText
+pub mod CanonicalNames
+pub mod CanonicalReads

@@ -10,4 +10,4 @@ pub mod Laws
 pub mod Scanner
 pub mod Machine
 -- what the printer's own functions say
-pub mod Pieces
+pub mod Printer

@@ -4,7 +4,8 @@ ghost use Rattle.csl_syntax.specs.Tokens.{op_text};
 ghost use Rattle.csl_syntax.specs.Tree.{tree_of, IsOver};
 ghost use Rattle.csl_syntax.specs.CanonicalText.{is_disjunction, is_junction, guarded, bound_text, formula_text};
 ghost use Rattle.decimal_text.specs.Text.{canonical_text};
-ghost use Rattle.csl_syntax.specs.Pieces.{PieceIsOver, PendingIsOver, piece_text, piece_size, pending_text, pending_size, tree_size};
+ghost use Rattle.csl_syntax.specs.Laws.{TextReadsBack};
+ghost use Rattle.csl_syntax.specs.Printer.{PieceIsOver, PendingIsOver, piece_text, piece_size, pending_text, pending_size, tree_size};
 
 use crate::formula::{Bound, Formula, Op};
 use decimal_text::Decimal;
@@ -196,3 +197,9 @@ fn is_junction(formula: &Formula) -> bool
 {
     matches!(formula, Formula::And(..) | Formula::Or(..))
 }
+
+/// A formula for which a line stands is read back from its text, where that isn't too long for a line. The text stands for
+/// no other formula, by `formula_is_one`.
+pub fn text_reads_back()
+    ensures { TextReadsBack }
+{}

@@ -2,8 +2,8 @@ use Rattle.std.proofs.Common.{◌≡◌, ℕ, ◌++◌, length, sym, subst, ap, 
 use Rattle.csl_syntax.specs.declared.formula.Formula.{Formula}
 use Rattle.csl_syntax.specs.Tree.{tree_of, IsOver}
 use Rattle.csl_syntax.specs.CanonicalText.{formula_text}
-use Rattle.csl_syntax.specs.Pieces.{pending_text}
-use Rattle.csl_syntax.proofs.Pending.{until_parts}
+use Rattle.csl_syntax.specs.Printer.{pending_text}
+use Rattle.csl_syntax.proofs.PrintPending.{until_parts}
 use Rattle.csl_syntax.proofs.text.begin.Goals as goal
 
 along : (n : ℕ) (f g : Formula) → f ≡ g → IsOver n (tree_of g) → IsOver n (tree_of f)

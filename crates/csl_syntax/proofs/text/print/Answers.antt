@@ -1,6 +1,6 @@
 use Rattle.std.proofs.Common.{◌++◌, length, ap, subst, sym, ◌∙◌, arith}
-use Rattle.csl_syntax.specs.Pieces.{pending_text, pending_size, PendingIsOver}
-use Rattle.csl_syntax.proofs.Pending.{pending_text-append, pending_size-append, over_front, over_last}
+use Rattle.csl_syntax.specs.Printer.{pending_text, pending_size, PendingIsOver}
+use Rattle.csl_syntax.proofs.PrintPending.{pending_text-append, pending_size-append, over_front, over_last}
 use Rattle.csl_syntax.proofs.text.print.Goals as goal
 
 pub write-requires : goal.write-requires

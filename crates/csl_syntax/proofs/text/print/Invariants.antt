@@ -1,7 +1,7 @@
 use Rattle.std.proofs.Common.{◌≡◌, ◌++◌, length}
 use Rattle.csl_syntax.specs.Tree.{tree_of}
 use Rattle.csl_syntax.specs.CanonicalText.{formula_text}
-use Rattle.csl_syntax.specs.Pieces.{PendingIsOver, pending_text, pending_size}
+use Rattle.csl_syntax.specs.Printer.{PendingIsOver, pending_text, pending_size}
 use Rattle.csl_syntax.proofs.text.print.Given as goal
 
 abbrev pub invariant-loop-piece : goal.invariant-loop-piece

@@ -1,6 +1,6 @@
 use Rattle.std.proofs.Common.{ap, ◌∙◌, subst, sym}
-use Rattle.csl_syntax.specs.Pieces.{pending_text, pending_size, PendingIsOver}
-use Rattle.csl_syntax.proofs.Pending.{pending_text-append, pending_size-append, over_more}
+use Rattle.csl_syntax.specs.Printer.{pending_text, pending_size, PendingIsOver}
+use Rattle.csl_syntax.proofs.PrintPending.{pending_text-append, pending_size-append, over_more}
 use Rattle.csl_syntax.proofs.text.put.Goals as goal
 
 pub returns-clause-text : goal.returns-clause-text

@@ -9,7 +9,7 @@ use Rattle.csl_syntax.specs.Tokens.{op_text}
 use Rattle.csl_syntax.specs.Tree.{Tree, until}
 use Rattle.csl_syntax.specs.CanonicalText.{bound_text, formula_text}
 use Rattle.csl_syntax.specs.declared.text.Piece.{Piece}
-use Rattle.csl_syntax.specs.Pieces.{piece_text, pending_text, piece_size, pending_size, PieceIsOver, PendingIsOver}
+use Rattle.csl_syntax.specs.Printer.{piece_text, pending_text, piece_size, pending_size, PieceIsOver, PendingIsOver}
 
 pub pending_text-append : (labels : List (List ℕ)) (ps : List Piece) (p : Piece) →
     pending_text labels (ps ++ p ∷ []) ≡ piece_text labels p ++ pending_text labels ps
