@@ -15,3 +15,9 @@ pub mod Outcomes
 pub mod Scans
 pub mod Views
 pub mod Parses
+pub mod PrintPending
+pub mod CanonicalTokens
+pub mod CanonicalShort
+pub mod CanonicalNumbers
+pub mod CanonicalNames
+pub mod CanonicalReads

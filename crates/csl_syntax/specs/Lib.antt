@@ -11,3 +11,5 @@ pub mod Scanner
 pub mod Machine
 pub mod View
 pub mod Parsing
+-- what the printer's own functions say
+pub mod Printer

@@ -14,6 +14,23 @@ pub enum Op {
     AtLeast,
 }
 
+impl Op {
+    ghost use Rattle.std.specs.Prelude.{◌≡◌};
+    ghost use Rattle.csl_syntax.specs.Tokens.{op_text};
+
+    /// The comparison as it is written.
+    pub fn text(self) -> &'static [u8]
+        ensures { result.now ≡ op_text self }
+    {
+        match self {
+            Op::Less => b"<",
+            Op::AtMost => b"<=",
+            Op::More => b">",
+            Op::AtLeast => b">=",
+        }
+    }
+}
+
 /// What bounds an until.
 #[derive(Clone, Copy, Debug, PartialEq, Eq)]
 pub enum Bound {

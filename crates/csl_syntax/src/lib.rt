@@ -16,8 +16,7 @@ mod run;
 mod steps;
 mod stop;
 mod symbol;
-#[cfg(test)]
-mod tests;
+mod text;
 mod token;
 mod word;
 
@@ -29,3 +28,7 @@ pub use laws::{
 };
 pub use limits::{MOST_BYTES, MOST_NESTED};
 pub use parser::parse;
+pub use text::{print, text_reads_back};
+
+#[cfg(test)]
+mod tests;

@@ -6,6 +6,8 @@ use std::process::Abort;
 use std::test::Fail;
 use text_lines::{Name, is_name};
 
+mod drawn;
+mod drawn_lines;
 mod faults;
 mod formulas;
 mod lengths;

@@ -3,11 +3,12 @@ use Rattle.std.proofs.Common.{◌≡◌, ◌≢◌, ℕ, ◌≤◌, inl, inr, Li
 use Rattle.std.proofs.lemmas.List.{append_cancel_left}
 use Rattle.decimal_text.specs.DecimalNumber.{DecimalNumber}
 use Rattle.decimal_text.specs.DecimalWord.{IsDecimalWord}
-use Rattle.session.specs.declared.plain_formula.Op.{Op}
-use Rattle.session.specs.declared.plain_formula.Op.TheVariants.{Less, AtMost, More, AtLeast}
+use Rattle.csl_syntax.specs.declared.formula.Op.{Op}
+use Rattle.csl_syntax.specs.declared.formula.Op.TheVariants.{Less, AtMost, More, AtLeast}
 use Rattle.session.specs.declared.plain_formula.PlainFormula.{PlainFormula}
 use Rattle.session.specs.declared.plain_formula.PlainFormula.TheVariants.{Next, Until}
-use Rattle.session.specs.PlainFormula.{op_text, next_text, until_text, probability_text, IsThresholdWord, IsLine, IsNextFormula, IsUntilFormula, IsPlainFormula, IsLongestOp, IsWordBefore, IsUntilEnd}
+use Rattle.csl_syntax.specs.Tokens.{op_text}
+use Rattle.session.specs.PlainFormula.{next_text, until_text, probability_text, IsThresholdWord, IsLine, IsNextFormula, IsUntilFormula, IsPlainFormula, IsLongestOp, IsWordBefore, IsUntilEnd}
 use Rattle.session.proofs.PlainWords.{no_equals_first, decimal_before, number_before_unique}
 
 -- a comparison after which no `=` stands is the longest

@@ -9,9 +9,10 @@ use Rattle.decimal_text.specs.DecimalNumber.{DecimalNumber}
 use Rattle.decimal_text.proofs.DecimalCases.{WordCase, Writes, Lacks, IsWordCase, some_word_case, word_case_unique}
 use Rattle.session.specs.Outcome.{name_at}
 use Rattle.decimal_text.specs.DecimalWord.{IsDecimalWord}
-use Rattle.session.specs.PlainFormula.{op_text, next_text, IsThresholdWord, IsLine, IsPlainFormula, IsLongestOp, IsWordBefore, IsUntilEnd}
-use Rattle.session.specs.declared.plain_formula.Op.{Op}
-use Rattle.session.specs.declared.plain_formula.Op.TheVariants.{Less, AtMost, More, AtLeast}
+use Rattle.csl_syntax.specs.Tokens.{op_text}
+use Rattle.session.specs.PlainFormula.{next_text, IsThresholdWord, IsLine, IsPlainFormula, IsLongestOp, IsWordBefore, IsUntilEnd}
+use Rattle.csl_syntax.specs.declared.formula.Op.{Op}
+use Rattle.csl_syntax.specs.declared.formula.Op.TheVariants.{Less, AtMost, More, AtLeast}
 use Rattle.session.specs.declared.plain_formula.PlainFormula.{PlainFormula}
 use Rattle.session.specs.declared.plain_formula.PlainFormula.TheVariants.{Next, Until}
 use Rattle.session.proofs.PlainFormulas.{longest, front_from, front_of_formula, threshold_after, next_of_path, until_of_path, no_formula, HasFront, time_of_path, path_of_time, time_before, bracket_of}

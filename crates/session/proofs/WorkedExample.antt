@@ -24,7 +24,7 @@ use Rattle.model_core.specs.Model.{LabelledChain, files_chain}
 use Rattle.session.specs.FormulaAnswer.{formula_states}
 use Rattle.session.specs.Outcome.{Outcome, Answered, IsOutcome, TakesFormula, outcome_text}
 use Rattle.session.specs.PlainFormula.{formula_text}
-use Rattle.session.specs.declared.plain_formula.Op.TheVariants.{AtLeast}
+use Rattle.csl_syntax.specs.declared.formula.Op.TheVariants.{AtLeast}
 use Rattle.session.specs.declared.plain_formula.PlainFormula.{PlainFormula}
 use Rattle.session.specs.declared.plain_formula.PlainFormula.TheVariants.{Next}
 use Rattle.session.specs.declared.report.StateAnswer.{StateAnswer}

@@ -2,21 +2,15 @@
 use Rattle.std.specs.Prelude.{◌≡◌, ℕ, ◌≤◌, ◌^◌, ◌⊎◌, Option, MatchOption, List, [], ◌∷◌, ◌++◌, length, codes}
 use Rattle.ctmc_semantics.specs.Threshold
 use Rattle.ctmc_semantics.specs.Threshold.{Comparison}
+use Rattle.csl_syntax.specs.Tokens.{op_text}
 use Rattle.decimal_text.specs.DecimalNumber.{DecimalNumber}
 use Rattle.decimal_text.specs.DecimalWord.{IsDecimalWord}
 use Rattle.decimal_text.specs.Text.{canonical_text}
-use Rattle.session.specs.declared.plain_formula.Op.{Op}
-use Rattle.session.specs.declared.plain_formula.Op.TheVariants.{Less, AtMost, More, AtLeast}
+use Rattle.csl_syntax.specs.declared.formula.Op.{Op}
+use Rattle.csl_syntax.specs.declared.formula.Op.TheVariants.{Less, AtMost, More, AtLeast}
 use Rattle.session.specs.declared.plain_formula.NumberFront.{NumberFront}
 use Rattle.session.specs.declared.plain_formula.PlainFormula.{PlainFormula}
 use Rattle.session.specs.declared.plain_formula.PlainFormula.TheVariants.{Next, Until}
-
--- a comparison as it is written
-abbrev pub op_text : Op → List ℕ
-op_text Less = codes "<"
-op_text AtMost = codes "<="
-op_text More = codes ">"
-op_text AtLeast = codes ">="
 
 -- what a comparison means
 abbrev pub comparison_of : Op → Comparison

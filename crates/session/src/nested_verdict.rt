@@ -12,8 +12,8 @@ ghost use Rattle.session.specs.PlainFormula.{comparison_of};
 ghost use Rattle.session.specs.Report.{IsPrintable};
 ghost use Rattle.session.specs.UntilAnswer.{words_answer};
 
-use crate::plain_formula::Op;
 use crate::report::{Printed, StateAnswer, Verdict};
+use csl_syntax::Op;
 use decimal_text::Decimal;
 use model_core::Model;
 use round_out::{ONE, cmp_frac, mul_div_ceil, mul_div_floor};

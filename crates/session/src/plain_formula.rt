@@ -1,39 +1,19 @@
 // The plain formula input.
 ghost use Rattle.std.specs.Prelude.{◌≡◌, ◌≢◌, ℕ, ◌<◌, ◌≤◌, ◌^◌, List, ◌∷◌, ◌++◌, length, codes, IsTrue, ◌↔◌, IfOk, OnOk, MatchOption};
+ghost use Rattle.csl_syntax.specs.Tokens.{op_text};
 ghost use Rattle.decimal_text.specs.Text.{canonical_text};
 ghost use Rattle.decimal_text.specs.DecimalNumber.{DecimalNumber};
 ghost use Rattle.decimal_text.specs.DecimalWord.{IsDecimalWord};
 ghost use Rattle.session.specs.PlainFormula.{IsReading};
 ghost use Rattle.session.specs.Reading.{IsNamedReading};
-ghost use Rattle.session.specs.PlainFormula.{op_text, next_text, formula_text, IsThresholdWord, IsLine, IsPlainFormula, IsLongestOp, IsNumberTaken, IsUntilEnd};
+ghost use Rattle.session.specs.PlainFormula.{next_text, formula_text, IsThresholdWord, IsLine, IsPlainFormula, IsLongestOp, IsNumberTaken, IsUntilEnd};
 
 use crate::plain_text::{LINE_END, take_literal, take_until};
+use csl_syntax::Op;
 use decimal_text::{Decimal, print, read};
 use model_core::MOST_LABELS;
 use std::alloc::{AllocError, Global};
 use text_lines::Name;
-
-/// The comparison of a probability with a threshold.
-#[derive(Clone, Copy, Debug, PartialEq, Eq)]
-pub(crate) enum Op {
-    Less,
-    AtMost,
-    More,
-    AtLeast,
-}
-
-impl Op {
-    fn text(self) -> &'static [u8]
-        ensures { result.now ≡ op_text self }
-    {
-        match self {
-            Op::Less => b"<",
-            Op::AtMost => b"<=",
-            Op::More => b">",
-            Op::AtLeast => b">=",
-        }
-    }
-}
 
 /// A formula over a declared name.
 #[derive(Clone, Copy, Debug, PartialEq, Eq)]

@@ -17,12 +17,13 @@ ghost use Rattle.session.specs.Reading.{outcome_of, IsWritable, IsFileReading, I
 
 use crate::command::{Command, read_words};
 use crate::nested_verdict::check_next;
-use crate::plain_formula::{NamedFormula, Op, PlainFormula, read_named_formula};
+use crate::plain_formula::{NamedFormula, PlainFormula, read_named_formula};
 use crate::report::StateAnswer;
 use crate::uniformise::{Refusal, TimeBound, time_bound};
 use crate::until_plan::plan_until;
 use crate::until_states::check_until;
 use crate::{ModelFault, Part, Status, Which};
+use csl_syntax::Op;
 use decimal_text::Decimal;
 use lab_reader::read_lab;
 use model_core::{Lab, MOST_LABELS, Model, Rew, Tra};

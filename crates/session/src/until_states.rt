@@ -12,8 +12,8 @@ ghost use Rattle.session.specs.UntilPlan.{IsUntilPlan};
 
 use crate::mix_columns::mixed_brackets;
 use crate::nested_verdict::words_answer;
-use crate::plain_formula::Op;
 use crate::report::StateAnswer;
+use csl_syntax::Op;
 use decimal_text::Decimal;
 use round_out::ONE;
 use std::alloc::{AllocError, Global};
