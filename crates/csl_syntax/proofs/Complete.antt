@@ -1,5 +1,5 @@
 -- What the grammar derives, the machine reads.
-use Rattle.std.proofs.Common.{◌≡◌, ℕ, zero, suc, ◌<◌, ◌≤◌, ◌*◌, ◌^◌, Bool, true, List, [], ◌∷◌, Option, Some, None, refl, ◌∙◌, ap, nat_lt, nat_le, arith}
+use Rattle.std.proofs.Common.{◌≡◌, ℕ, suc, ◌≤◌, ◌*◌, ◌^◌, List, [], ◌∷◌, Option, Some, None, refl, ◌∙◌, ap, arith}
 use Rattle.std.proofs.lemmas.Bool.{lt-ltb, le-leb}
 use Rattle.std.proofs.Math.Nat.{mul-le-mul_right, le_trans}
 use Rattle.decimal_text.specs.DecimalNumber.{DecimalNumber}
@@ -9,16 +9,25 @@ use Rattle.csl_syntax.specs.declared.formula.Op.{Op}
 use Rattle.csl_syntax.specs.declared.formula.Bound.{Bound}
 use Rattle.csl_syntax.specs.declared.formula.Bound.TheVariants.{Unbounded}
 use Rattle.csl_syntax.specs.Tree.{Tree, disjunction, next, until, IsUpTo}
-use Rattle.csl_syntax.specs.Grammar.{Level, formula, conj, unary, atom, Derives, a_truth, a_falsehood, a_name, in_parens, a_not, an_atom, an_and, a_unary, an_or, a_conj, a_next, an_until, operator, IsBound, no_bound, any_time, in_time, in_reward}
-use Rattle.csl_syntax.specs.Machine.{Layer, parens, of_next, until_left, until_right, p_path, u_start, u_comma, u_again, v_comma, layer, more, named, judged, zero_then, want, have, start, negated, back, with_both, with_either, run, whole}
+use Rattle.csl_syntax.specs.Grammar.{Level, formula, conj, unary, atom, Derives, a_truth, a_falsehood, a_name, in_parens, a_not, an_atom}
+use Rattle.csl_syntax.specs.Grammar.{an_and, a_unary, an_or, a_conj, a_next, an_until, operator, IsBound, no_bound, any_time, in_time}
+use Rattle.csl_syntax.specs.Grammar.{in_reward}
+use Rattle.csl_syntax.specs.Machine.{Layer, parens, of_next, until_left, until_right, p_path, u_start, u_comma, u_again, v_comma, layer}
+use Rattle.csl_syntax.specs.Machine.{more, named, judged, zero_then, want, have, start, negated, back, with_both, with_either, run, whole}
 
 module _ (N T : ℕ) where
   -- How the machine stands after the tokens of a level.
   abbrev Read : ℕ → Level → Tree → List Token → List Token → Type 0
-  Read d atom f s r = (ls : List Layer) (o a : Option Tree) (n : ℕ) → run N T (want d ls o a n) s ≡ run N T (have (back n d) ls o a (negated n f)) r
-  Read d unary f s r = (ls : List Layer) (o a : Option Tree) (n : ℕ) → run N T (want d ls o a n) s ≡ run N T (have (back n d) ls o a (negated n f)) r
-  Read d conj f s r = (ls : List Layer) (o : Option Tree) → (a : Option Tree) × (h : Tree) × (with_both a h ≡ f) × (run N T (want d ls o None 0) s ≡ run N T (have d ls o a h) r)
-  Read d formula f s r = (ls : List Layer) → (o : Option Tree) × (a : Option Tree) × (h : Tree) × (with_either o (with_both a h) ≡ f) × (run N T (want d ls None None 0) s ≡ run N T (have d ls o a h) r)
+  Read d atom f s r =
+      (ls : List Layer) (o a : Option Tree) (n : ℕ) → run N T (want d ls o a n) s ≡ run N T (have (back n d) ls o a (negated n f)) r
+  Read d unary f s r =
+      (ls : List Layer) (o a : Option Tree) (n : ℕ) → run N T (want d ls o a n) s ≡ run N T (have (back n d) ls o a (negated n f)) r
+  Read d conj f s r =
+      (ls : List Layer) (o : Option Tree) → (a : Option Tree) × (h : Tree) × (with_both a h ≡ f)
+      × (run N T (want d ls o None 0) s ≡ run N T (have d ls o a h) r)
+  Read d formula f s r =
+      (ls : List Layer) → (o : Option Tree) × (a : Option Tree) × (h : Tree) × (with_either o (with_both a h) ≡ f)
+      × (run N T (want d ls None None 0) s ≡ run N T (have d ls o a h) r)
 
   -- A formula's first token begins it in each place where one may come.
   abbrev First : List Token → Type 0
@@ -41,7 +50,8 @@ module _ (N T : ℕ) where
   first (an_or x y) = first x
   first (a_conj x) = first x
 
-  bounds : {b : Bound} {m k : List Token} → IsBound b m k → First k → (d : ℕ) (ls : List Layer) (o a : Option Tree) (n : ℕ) (op : Op) (q : DecimalNumber) (f : Tree) →
+  bounds : {b : Bound} {m k : List Token} → IsBound b m k → First k
+      → (d : ℕ) (ls : List Layer) (o a : Option Tree) (n : ℕ) (op : Op) (q : DecimalNumber) (f : Tree) →
       run N T (more (u_start op q f) d ls o a n) m ≡ run N T (want d (layer (until_right op q f b) o a n ∷ ls) None None 0) k
   bounds no_bound x = λ d ls o a n op q f. (x d ls o a n op q f).1
   bounds (any_time {z} {r} e) x = λ d ls o a n op q f.
@@ -49,12 +59,14 @@ module _ (N T : ℕ) where
   bounds (in_time {z} {t} {r} e) x = λ d ls o a n op q f.
       ap (λ v. run N T (zero_then v (u_comma op q f) d ls o a n) (Comma ∷ Number t ∷ CloseBracket ∷ r)) e
   bounds (in_reward {z} {y} {t} {r} e e2) x = λ d ls o a n op q f.
-      ap (λ v. run N T (zero_then v (u_comma op q f) d ls o a n) (Comma ∷ Tilde ∷ CloseBracket ∷ OpenBracket ∷ Number y ∷ Comma ∷ Number t ∷ CloseBracket ∷ r)) e
+      ap (λ v. run N T (zero_then v (u_comma op q f) d ls o a n)
+      (Comma ∷ Tilde ∷ CloseBracket ∷ OpenBracket ∷ Number y ∷ Comma ∷ Number t ∷ CloseBracket ∷ r)) e
       ∙ ap (λ v. run N T (zero_then v (v_comma op q f) d ls o a n) (Comma ∷ Number t ∷ CloseBracket ∷ r)) e2
 
   judged_so : (q : DecimalNumber) → IsUpTo T q → (op : Op) (d : ℕ) (ls : List Layer) (o a : Option Tree) (n : ℕ) (s : List Token) →
       run N T (want (suc d) ls o a n) (operator op q s) ≡ run N T (more (p_path op q) d ls o a n) s
-  judged_so q h op d ls o a n s = ap (λ b. run N T (judged b op q d ls o a n) (CloseBrace ∷ OpenBracket ∷ s)) (le-leb q.c (T * 10 ^ q.x) h)
+  judged_so q h op d ls o a n s =
+      ap (λ b. run N T (judged b op q d ls o a n) (CloseBrace ∷ OpenBracket ∷ s)) (le-leb q.c (T * 10 ^ q.x) h)
 
   pub reads : {d : ℕ} {lv : Level} {f : Tree} {s r : List Token} → Derives N T d lv f s r → Read d lv f s r
   reads a_truth = λ ls o a n. refl
@@ -70,9 +82,9 @@ module _ (N T : ℕ) where
       let e = reads x (layer (until_left op q) o a n ∷ ls) in
       let e2 = reads y (layer (until_right op q f b) o a n ∷ ls) in
       judged_so q h op d ls o a n s ∙ (first x d ls o a n op q f).0 ∙ e.4
-        ∙ ap (λ v. run N T (more (u_start op q v) d ls o a n) m) e.3
-        ∙ bounds w (first y) d ls o a n op q f
-        ∙ e2.4 ∙ ap (λ v. run N T (have (back n (suc d)) ls o a (negated n (until op q f b v))) r) e2.3
+      ∙ ap (λ v. run N T (more (u_start op q v) d ls o a n) m) e.3
+      ∙ bounds w (first y) d ls o a n op q f
+      ∙ e2.4 ∙ ap (λ v. run N T (have (back n (suc d)) ls o a (negated n (until op q f b v))) r) e2.3
   reads (a_not x) = λ ls o a n. reads x ls o a (suc n)
   reads (an_atom x) = reads x
   reads (an_and {d} {f} {g} {s} {m} {r} x y) = λ ls o.

@@ -1,18 +1,20 @@
 -- Where the machine goes on, some formula goes on so; and where it is stopped, none does within the limits.
-use Rattle.std.proofs.Common.{◌≡◌, ℕ, zero, suc, ◌≤◌, ◌*◌, ◌^◌, List, [], ◌∷◌, ◌++◌, Option, Some, None, refl, sym, ◌∙◌, ap, subst, arith}
+use Rattle.std.proofs.Common.{◌≡◌, ℕ, suc, ◌≤◌, ◌*◌, ◌^◌, List, [], ◌∷◌, ◌++◌, Option, Some, None, refl, sym, ◌∙◌, ap, subst, arith}
 use Rattle.std.proofs.lemmas.Bool.{le-leb}
 use Rattle.decimal_text.specs.DecimalNumber.{DecimalNumber}
 use Rattle.csl_syntax.specs.declared.fault.FormulaWhat.{FormulaWhat}
-use Rattle.csl_syntax.specs.declared.fault.FormulaWhat.TheVariants as what
 use Rattle.csl_syntax.specs.declared.token.Token.{Token}
-use Rattle.csl_syntax.specs.declared.token.Token.TheVariants.{Truth, Falsehood, Name, ProbabilityWord, NextWord, UntilWord, Bang, AndAnd, OrOr, OpenParen, CloseParen, OpenBrace, CloseBrace, OpenBracket, CloseBracket, Comma, Tilde, Compare, Number}
+use Rattle.csl_syntax.specs.declared.token.Token.TheVariants.{Truth, NextWord, UntilWord, CloseParen, OpenBrace, CloseBrace, OpenBracket}
+use Rattle.csl_syntax.specs.declared.token.Token.TheVariants.{CloseBracket, Comma, Compare, Number}
 use Rattle.csl_syntax.specs.declared.formula.Op.{Op}
 use Rattle.csl_syntax.specs.declared.formula.Op.TheVariants.{Less}
-use Rattle.csl_syntax.specs.declared.formula.Bound.{Bound}
 use Rattle.csl_syntax.specs.declared.formula.Bound.TheVariants.{Unbounded, Time, Reward}
-use Rattle.csl_syntax.specs.Tree.{Tree, truth, falsehood, label, negation, conjunction, disjunction, next, until, IsUpTo}
-use Rattle.csl_syntax.specs.Grammar.{Limits, formula, conj, unary, atom, Derives, BeginsWithin, Begins, IsSpelled}
-use Rattle.csl_syntax.specs.Machine.{Layer, Kind, parens, of_next, until_left, until_right, Phase, p_brace, p_op, p_number, p_close, p_bracket, p_path, u_start, u_zero, u_comma, u_limit, u_close, u_any, u_again, v_zero, v_comma, v_limit, v_close, layer, headed, more, named, judged, in_more, in_want, zero_then, closed_as, boxed_as, turned_as, boxed, turned, operand, State, want, have, stopped, start, negated, back, with_both, with_either, closed, bang, opened, step, run, whole_of, whole}
+use Rattle.csl_syntax.specs.Tree.{Tree, truth, next, until}
+use Rattle.csl_syntax.specs.Grammar.{Limits, formula, Derives, BeginsWithin}
+use Rattle.csl_syntax.specs.Machine.{Layer, Kind, parens, of_next, until_left, until_right, Phase, p_brace, p_op, p_number, p_close}
+use Rattle.csl_syntax.specs.Machine.{p_bracket, p_path, u_start, u_zero, u_comma, u_limit, u_close, u_any, u_again, v_zero, v_comma}
+use Rattle.csl_syntax.specs.Machine.{v_limit, v_close, layer, more, judged, State, want, have, stopped, start, negated, back, with_both}
+use Rattle.csl_syntax.specs.Machine.{with_either, step, run, whole}
 use Rattle.csl_syntax.proofs.Sound.{read_is_spelled}
 use Rattle.csl_syntax.proofs.Complete.{spelled_is_read}
 
@@ -55,8 +57,10 @@ module _ (N T : ℕ) where
       (g : Tree) × (whole (run N T (have d (layer k x y n ∷ ls) o a f) (closing_as k (closing ls))) ≡ Some g)
   layer_ends parens ls x y n d o a f h = h (back n (suc d)) x y (negated n (with_either o (with_both a f)))
   layer_ends (of_next op q) ls x y n d o a f h = h (back n (suc d)) x y (negated n (next op q (with_either o (with_both a f))))
-  layer_ends (until_left op q) ls x y n d o a f h = h (back n (suc d)) x y (negated n (until op q (with_either o (with_both a f)) Unbounded truth))
-  layer_ends (until_right op q g b) ls x y n d o a f h = h (back n (suc d)) x y (negated n (until op q g b (with_either o (with_both a f))))
+  layer_ends (until_left op q) ls x y n d o a f h =
+      h (back n (suc d)) x y (negated n (until op q (with_either o (with_both a f)) Unbounded truth))
+  layer_ends (until_right op q g b) ls x y n d o a f h =
+      h (back n (suc d)) x y (negated n (until op q g b (with_either o (with_both a f))))
 
   closing_ends : (ls : List Layer) → HaveEnds ls
   unfolding closing
@@ -73,14 +77,15 @@ module _ (N T : ℕ) where
   want_ends : (d : ℕ) (ls : List Layer) (o a : Option Tree) (n : ℕ) → Ends (want d ls o a n)
   want_ends d ls o a n = then (want d ls o a n) Truth (have_ends (back n d) ls o a (negated n truth))
 
-
   close_ends : (op : Op) (q : DecimalNumber) (d : ℕ) (ls : List Layer) (o a : Option Tree) (n : ℕ) → Ends (more (p_close op q) d ls o a n)
-  close_ends op q d ls o a n = then _ CloseBrace (then _ OpenBracket (then _ NextWord (want_ends d (layer (of_next op q) o a n ∷ ls) None None 0)))
+  close_ends op q d ls o a n =
+      then _ CloseBrace (then _ OpenBracket (then _ NextWord (want_ends d (layer (of_next op q) o a n ∷ ls) None None 0)))
 
   number_ends : (op : Op) (d : ℕ) (ls : List Layer) (o a : Option Tree) (n : ℕ) → Ends (more (p_number op) d ls o a n)
   number_ends op d ls o a n =
       let fits : 0 ≤ T * 10 ^ 0 = omega arith in
-      then _ (Number nought) (subst Ends (sym (ap (λ b. judged b op nought d ls o a n) (le-leb 0 (T * 10 ^ 0) fits))) (close_ends op nought d ls o a n))
+      then _ (Number nought) (subst Ends (sym (ap (λ b. judged b op nought d ls o a n) (le-leb 0 (T * 10 ^ 0) fits)))
+      (close_ends op nought d ls o a n))
 
   more_ends : (p : Phase) (d : ℕ) (ls : List Layer) (o a : Option Tree) (n : ℕ) → Ends (more p d ls o a n)
   more_ends p_brace d ls o a n = then _ OpenBrace (then _ (Compare Less) (number_ends Less d ls o a n))
@@ -90,16 +95,28 @@ module _ (N T : ℕ) where
   more_ends (p_bracket op q) d ls o a n = then _ OpenBracket (then _ NextWord (want_ends d (layer (of_next op q) o a n ∷ ls) None None 0))
   more_ends (p_path op q) d ls o a n = then _ NextWord (want_ends d (layer (of_next op q) o a n ∷ ls) None None 0)
   more_ends (u_start op q f) d ls o a n = then _ Truth (have_ends d (layer (until_right op q f Unbounded) o a n ∷ ls) None None truth)
-  more_ends (u_zero op q f) d ls o a n = then _ (Number nought) (then _ Comma (then _ (Number nought) (then _ CloseBracket (want_ends d (layer (until_right op q f (Time nought)) o a n ∷ ls) None None 0))))
-  more_ends (u_comma op q f) d ls o a n = then _ Comma (then _ (Number nought) (then _ CloseBracket (want_ends d (layer (until_right op q f (Time nought)) o a n ∷ ls) None None 0)))
-  more_ends (u_limit op q f) d ls o a n = then _ (Number nought) (then _ CloseBracket (want_ends d (layer (until_right op q f (Time nought)) o a n ∷ ls) None None 0))
+  more_ends (u_zero op q f) d ls o a n =
+      then _ (Number nought) (then _ Comma
+      (then _ (Number nought) (then _ CloseBracket (want_ends d (layer (until_right op q f (Time nought)) o a n ∷ ls) None None 0))))
+  more_ends (u_comma op q f) d ls o a n =
+      then _ Comma (then _ (Number nought)
+      (then _ CloseBracket (want_ends d (layer (until_right op q f (Time nought)) o a n ∷ ls) None None 0)))
+  more_ends (u_limit op q f) d ls o a n =
+      then _ (Number nought) (then _ CloseBracket (want_ends d (layer (until_right op q f (Time nought)) o a n ∷ ls) None None 0))
   more_ends (u_close op q f t) d ls o a n = then _ CloseBracket (want_ends d (layer (until_right op q f (Time t)) o a n ∷ ls) None None 0)
-  more_ends (u_any op q f) d ls o a n = then _ CloseBracket (then _ Truth (have_ends d (layer (until_right op q f Unbounded) o a n ∷ ls) None None truth))
+  more_ends (u_any op q f) d ls o a n =
+      then _ CloseBracket (then _ Truth (have_ends d (layer (until_right op q f Unbounded) o a n ∷ ls) None None truth))
   more_ends (u_again op q f) d ls o a n = then _ Truth (have_ends d (layer (until_right op q f Unbounded) o a n ∷ ls) None None truth)
-  more_ends (v_zero op q f) d ls o a n = then _ (Number nought) (then _ Comma (then _ (Number nought) (then _ CloseBracket (want_ends d (layer (until_right op q f (Reward nought)) o a n ∷ ls) None None 0))))
-  more_ends (v_comma op q f) d ls o a n = then _ Comma (then _ (Number nought) (then _ CloseBracket (want_ends d (layer (until_right op q f (Reward nought)) o a n ∷ ls) None None 0)))
-  more_ends (v_limit op q f) d ls o a n = then _ (Number nought) (then _ CloseBracket (want_ends d (layer (until_right op q f (Reward nought)) o a n ∷ ls) None None 0))
-  more_ends (v_close op q f t) d ls o a n = then _ CloseBracket (want_ends d (layer (until_right op q f (Reward t)) o a n ∷ ls) None None 0)
+  more_ends (v_zero op q f) d ls o a n =
+      then _ (Number nought) (then _ Comma
+      (then _ (Number nought) (then _ CloseBracket (want_ends d (layer (until_right op q f (Reward nought)) o a n ∷ ls) None None 0))))
+  more_ends (v_comma op q f) d ls o a n =
+      then _ Comma (then _ (Number nought)
+      (then _ CloseBracket (want_ends d (layer (until_right op q f (Reward nought)) o a n ∷ ls) None None 0)))
+  more_ends (v_limit op q f) d ls o a n =
+      then _ (Number nought) (then _ CloseBracket (want_ends d (layer (until_right op q f (Reward nought)) o a n ∷ ls) None None 0))
+  more_ends (v_close op q f t) d ls o a n =
+      then _ CloseBracket (want_ends d (layer (until_right op q f (Reward t)) o a n ∷ ls) None None 0)
 
   pub ends : (q : State) → IsGoing q → Ends q
   ends (want d ls o a n) h = want_ends d ls o a n
@@ -128,7 +145,8 @@ module _ (N T : ℕ) where
 
   pub stops : (d : ℕ) (s : List Token) (w : FormulaWhat) → run N T (start d) s ≡ stopped w → ¬ BeginsWithin (limits N T d) s
   stops d s w h (rest, f, x) =
-      none_is_some (sym (ap whole (run-append (start d) s rest ∙ ap (λ q. run N T q rest) h ∙ run-stopped w rest)) ∙ spelled_is_read N T x)
+      none_is_some (sym (ap whole (run-append (start d) s rest ∙ ap (λ q. run N T q rest) h ∙ run-stopped w rest)) ∙ spelled_is_read N T
+      x)
 
   -- the machine goes on with what a formula within the limits begins with
   is_going : (d : ℕ) (s : List Token) (q : State) → run N T (start d) s ≡ q → BeginsWithin (limits N T d) s → IsGoing q

@@ -1,21 +1,24 @@
 -- What a step of the machine tells of its token.
-use Rattle.std.proofs.Common.{◌≡◌, ℕ, zero, suc, ◌+◌, ◌<◌, ◌≤◌, ◌*◌, ◌^◌, ◌⊎◌, inl, inr, Bool, true, false, nat_lt, nat_le, List, [], ◌∷◌, ◌++◌, Option, Some, None, refl, sym, ◌∙◌, ap, subst, arith}
-use Rattle.std.proofs.lemmas.Bool.{lt-ltb, ltb-true, ltb-false, leb-false, le-leb, leb-true}
+use Rattle.std.proofs.Common.{◌≡◌, ℕ, zero, suc, ◌<◌, ◌≤◌, ◌*◌, ◌^◌, Bool, true, false, nat_lt, nat_le, List, [], ◌∷◌, Option, Some, None}
+use Rattle.std.proofs.Common.{refl, arith}
+use Rattle.std.proofs.lemmas.Bool.{ltb-false, leb-false}
 use Rattle.decimal_text.specs.DecimalNumber.{DecimalNumber}
 use Rattle.csl_syntax.specs.declared.fault.FormulaWhat.{FormulaWhat}
 use Rattle.csl_syntax.specs.declared.fault.FormulaWhat.TheVariants as what
 use Rattle.csl_syntax.specs.declared.token.Token.{Token}
-use Rattle.csl_syntax.specs.declared.token.Token.TheVariants.{Truth, Falsehood, Name, ProbabilityWord, NextWord, UntilWord, Bang, AndAnd, OrOr, OpenParen, CloseParen, OpenBrace, CloseBrace, OpenBracket, CloseBracket, Comma, Tilde, Compare, Number}
+use Rattle.csl_syntax.specs.declared.token.Token.TheVariants.{Name, ProbabilityWord, NextWord, UntilWord, Bang, OpenParen, CloseParen}
+use Rattle.csl_syntax.specs.declared.token.Token.TheVariants.{OpenBrace, CloseBrace, OpenBracket, CloseBracket, Comma, Tilde, Compare}
+use Rattle.csl_syntax.specs.declared.token.Token.TheVariants.{Number}
 use Rattle.csl_syntax.specs.declared.formula.Op.{Op}
-use Rattle.csl_syntax.specs.declared.formula.Op.TheVariants.{Less}
-use Rattle.csl_syntax.specs.declared.formula.Bound.{Bound}
-use Rattle.csl_syntax.specs.declared.formula.Bound.TheVariants.{Unbounded, Time, Reward}
-use Rattle.csl_syntax.specs.Tree.{Tree, truth, falsehood, label, negation, conjunction, disjunction, next, until, IsUpTo}
-use Rattle.csl_syntax.specs.Grammar.{Limits, formula, conj, unary, atom, Derives, BeginsWithin, Begins, IsSpelled}
-use Rattle.csl_syntax.specs.Machine.{Layer, Kind, parens, of_next, until_left, until_right, Phase, p_brace, p_op, p_number, p_close, p_bracket, p_path, u_start, u_zero, u_comma, u_limit, u_close, u_any, u_again, v_zero, v_comma, v_limit, v_close, layer, headed, more, named, judged, in_more, in_want, zero_then, closed_as, boxed_as, turned_as, boxed, turned, operand, State, want, have, stopped, start, negated, back, with_both, with_either, closed, bang, opened, step, run, whole_of, whole}
+use Rattle.csl_syntax.specs.declared.formula.Bound.TheVariants.{Unbounded}
+use Rattle.csl_syntax.specs.Tree.{Tree, IsUpTo}
+use Rattle.csl_syntax.specs.Machine.{Layer, Kind, parens, of_next, until_left, until_right, Phase, p_brace, p_op, p_number, p_close}
+use Rattle.csl_syntax.specs.Machine.{p_bracket, p_path, u_start, u_zero, u_comma, u_limit, u_close, u_any, u_again, v_zero, v_comma}
+use Rattle.csl_syntax.specs.Machine.{v_limit, v_close, layer, headed, more, named, judged, in_more, in_want, zero_then, closed_as}
+use Rattle.csl_syntax.specs.Machine.{boxed_as, turned_as, boxed, turned, State, want, have, stopped, with_both, with_either, closed, bang}
+use Rattle.csl_syntax.specs.Machine.{opened, step}
 use Rattle.csl_syntax.specs.FormulaFault.{IsEnclosing}
 use Rattle.csl_syntax.specs.Machine.{in_have}
-use Rattle.decimal_text.proofs.FixedDigits.{ten_pos}
 use Rattle.csl_syntax.proofs.Endings.{IsGoing}
 
 -- the comparison, where its number must come
@@ -74,11 +77,13 @@ module _ (N T : ℕ) (q : State) (t : Token) where
   follows_turned d [] f = tt
   follows_turned d (l ∷ ls) f = follows_turned_as l.kind d ls l.either l.both l.bangs f
 
-  follows_named : (b : Bool) (d : ℕ) (ls : List Layer) (o a : Option Tree) (n j : ℕ) → t ≡ Name j → (b ≡ false → N ≤ j) → Follows (named b d ls o a n j)
+  follows_named : (b : Bool) (d : ℕ) (ls : List Layer) (o a : Option Tree) (n j : ℕ) → t ≡ Name j → (b ≡ false → N ≤ j)
+      → Follows (named b d ls o a n j)
   follows_named true d ls o a n j e h = tt
   follows_named false d ls o a n j e h = (j, e, h refl)
 
-  follows_judged : (b : Bool) (op : Op) (v : DecimalNumber) (d : ℕ) (ls : List Layer) (o a : Option Tree) (n : ℕ) → number_place q ≡ Some op → t ≡ Number v → (b ≡ false → ¬ IsUpTo T v) →
+  follows_judged : (b : Bool) (op : Op) (v : DecimalNumber) (d : ℕ) (ls : List Layer) (o a : Option Tree) (n : ℕ)
+      → number_place q ≡ Some op → t ≡ Number v → (b ≡ false → ¬ IsUpTo T v) →
       Follows (judged b op v d ls o a n)
   follows_judged true op v d ls o a n p e h = tt
   follows_judged false op v d ls o a n p e h = (op, v, p, e, h refl)
@@ -102,34 +107,44 @@ module _ (N T : ℕ) where
   follows_headed q zero ls o a n = tt
   follows_headed q (suc d) ls o a n = tt
 
-  follows_zero : (q : State) (t : Token) (z : ℕ) (p : Phase) (d : ℕ) (ls : List Layer) (o a : Option Tree) (n : ℕ) → ComesBy N T q t p → Follows N T q t (zero_then z p d ls o a n)
+  follows_zero : (q : State) (t : Token) (z : ℕ) (p : Phase) (d : ℕ) (ls : List Layer) (o a : Option Tree) (n : ℕ) → ComesBy N T q t p
+      → Follows N T q t (zero_then z p d ls o a n)
   follows_zero q t zero p d ls o a n h = h
   follows_zero q t (suc z) p d ls o a n h = tt
 
-  follows_want : (q : State) (t : Token) (d : ℕ) (ls : List Layer) (o a : Option Tree) (n : ℕ) → Follows N T q t (in_want N T t d ls o a n)
+  follows_want : (q : State) (t : Token) (d : ℕ) (ls : List Layer) (o a : Option Tree) (n : ℕ)
+      → Follows N T q t (in_want N T t d ls o a n)
   follows_want q (Name j) d ls o a n = follows_named N T q (Name j) (nat_lt j N) d ls o a n j refl (not_below j N)
   follows_want q Bang d ls o a n = follows_bang q d ls o a n
   follows_want q OpenParen d ls o a n = follows_opened q d ls o a n
   follows_want q ProbabilityWord d ls o a n = follows_headed q d ls o a n
   follows_want q t d ls o a n = tt
 
-  follows_have : (q : State) (t : Token) (d : ℕ) (ls : List Layer) (o a : Option Tree) (f : Tree) → Follows N T q t (in_have N T t d ls o a f)
+  follows_have : (q : State) (t : Token) (d : ℕ) (ls : List Layer) (o a : Option Tree) (f : Tree)
+      → Follows N T q t (in_have N T t d ls o a f)
   follows_have q CloseParen d ls o a f = follows_closed N T q CloseParen d ls (with_either o (with_both a f))
   follows_have q CloseBracket d ls o a f = follows_boxed N T q CloseBracket d ls (with_either o (with_both a f))
   follows_have q UntilWord d ls o a f = follows_turned N T q UntilWord d ls (with_either o (with_both a f))
   follows_have q t d ls o a f = tt
 
-  follows_more : (p : Phase) (t : Token) (d : ℕ) (ls : List Layer) (o a : Option Tree) (n : ℕ) → Follows N T (more p d ls o a n) t (in_more N T p t d ls o a n)
+  follows_more : (p : Phase) (t : Token) (d : ℕ) (ls : List Layer) (o a : Option Tree) (n : ℕ)
+      → Follows N T (more p d ls o a n) t (in_more N T p t d ls o a n)
   follows_more (p_path op q) NextWord d ls o a n = tt
-  follows_more (p_path op q) t d ls o a n = follows_want (more (p_path op q) d ls o a n) t d (layer (until_left op q) o a n ∷ ls) None None 0
+  follows_more (p_path op q) t d ls o a n =
+      follows_want (more (p_path op q) d ls o a n) t d (layer (until_left op q) o a n ∷ ls) None None 0
   follows_more (u_start op q f) OpenBracket d ls o a n = tt
-  follows_more (u_start op q f) t d ls o a n = follows_want (more (u_start op q f) d ls o a n) t d (layer (until_right op q f Unbounded) o a n ∷ ls) None None 0
-  follows_more (u_zero op q f) (Number z) d ls o a n = follows_zero (more (u_zero op q f) d ls o a n) (Number z) z.c (u_comma op q f) d ls o a n tt
+  follows_more (u_start op q f) t d ls o a n =
+      follows_want (more (u_start op q f) d ls o a n) t d (layer (until_right op q f Unbounded) o a n ∷ ls) None None 0
+  follows_more (u_zero op q f) (Number z) d ls o a n =
+      follows_zero (more (u_zero op q f) d ls o a n) (Number z) z.c (u_comma op q f) d ls o a n tt
   follows_more (u_again op q f) OpenBracket d ls o a n = tt
-  follows_more (u_again op q f) t d ls o a n = follows_want (more (u_again op q f) d ls o a n) t d (layer (until_right op q f Unbounded) o a n ∷ ls) None None 0
-  follows_more (v_zero op q f) (Number z) d ls o a n = follows_zero (more (v_zero op q f) d ls o a n) (Number z) z.c (v_comma op q f) d ls o a n tt
+  follows_more (u_again op q f) t d ls o a n =
+      follows_want (more (u_again op q f) d ls o a n) t d (layer (until_right op q f Unbounded) o a n ∷ ls) None None 0
+  follows_more (v_zero op q f) (Number z) d ls o a n =
+      follows_zero (more (v_zero op q f) d ls o a n) (Number z) z.c (v_comma op q f) d ls o a n tt
   follows_more (p_number op) (Number v) d ls o a n =
-      follows_judged N T (more (p_number op) d ls o a n) (Number v) (nat_le v.c (T * 10 ^ v.x)) op v d ls o a n refl refl (not_up_to v.c (T * 10 ^ v.x))
+      follows_judged N T (more (p_number op) d ls o a n) (Number v) (nat_le v.c (T * 10 ^ v.x)) op v d ls o a n refl refl
+      (not_up_to v.c (T * 10 ^ v.x))
   follows_more p_brace OpenBrace d ls o a n = tt
   follows_more p_op (Compare op) d ls o a n = refl
   follows_more (p_close op q) CloseBrace d ls o a n = tt

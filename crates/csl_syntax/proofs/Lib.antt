@@ -12,6 +12,9 @@ pub mod Scanning
 pub mod Exponents
 pub mod Fronts
 pub mod Outcomes
+pub mod Scans
+pub mod Views
+pub mod Parses
 pub mod PrintPending
 pub mod CanonicalTokens
 pub mod CanonicalShort

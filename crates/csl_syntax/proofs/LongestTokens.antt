@@ -1,6 +1,6 @@
 -- When a text at the head of bytes is the longest token there.
-use Rattle.std.proofs.Common.{◌≡◌, ◌≢◌, ℕ, zero, suc, ◌+◌, ◌<◌, ◌≤◌, ◌⊎◌, inl, inr, Bool, true, false, ◌&&◌, ◌||◌, ◌==◌, cond, Option, Some, None, List, [], ◌∷◌, ◌++◌, length, refl, sym, ◌∙◌, ap, subst, arith, append_assoc, length-append}
-use Rattle.std.specs.Prelude.{IsTrue, codes}
+use Rattle.std.proofs.Common.{◌≡◌, ℕ, ◌+◌, ◌<◌, ◌≤◌, ◌⊎◌, inl, inr, Bool, true, false, ◌||◌, Option, Some, None, List, [], ◌∷◌, ◌++◌}
+use Rattle.std.proofs.Common.{length, refl, sym, ◌∙◌, ap, subst, arith, append_assoc, length-append}
 use Rattle.std.specs.Char.{is_ascii_digit}
 use Rattle.std.specs.List.{list_all, list_any}
 use Rattle.std.specs.Str.{bytes_eq}
@@ -10,7 +10,8 @@ use Rattle.text_lines.specs.Name.{begins_name, continues_name}
 use Rattle.text_lines.specs.Words.{is_blank}
 use Rattle.csl_syntax.specs.Scanner.{EndsRun, HasNoExponent}
 use Rattle.csl_syntax.specs.TokenText.{is_word, is_digit_or_point, IsNumberText, symbols, is_symbol, IsTokenText, IsTokenBefore}
-use Rattle.csl_syntax.proofs.Runs.{true_is_false, both_ways, and_left, and_right, and_both, same_first, same_rest, nothing_first, split_same, word_no_number, word_no_blank, number_no_blank, begins_continues, digits_are}
+use Rattle.csl_syntax.proofs.Runs.{true_is_false, both_ways, and_left, and_right, and_both, same_first, same_rest, nothing_first}
+use Rattle.csl_syntax.proofs.Runs.{split_same, word_no_number, begins_continues, digits_are}
 
 -- what a text says of its first byte, by its kind
 pub record StartsBy (P : ℕ → Type 0) (text : List ℕ) : Type 0 where
@@ -37,14 +38,15 @@ pub word_continues : (text : List ℕ) → is_word text ≡ true → list_all co
 word_continues [] h = refl
 word_continues (b ∷ s) h =
     and_both (continues_name b) (list_all continues_name s) (begins_continues b (and_left (begins_name b) (list_all continues_name s) h))
-      (and_right (begins_name b) (list_all continues_name s) h)
+    (and_right (begins_name b) (list_all continues_name s) h)
 
 nothing_below : 0 < 0 → ⊥
 nothing_below h = omega (arith, h)
 
 run_starts : (run tail : List ℕ) → 0 < length run → list_all is_digit_or_point run ≡ true → StartsBy InRun (run ++ tail)
 run_starts [] tail h g = absurd (nothing_below h)
-run_starts (b ∷ s) tail h g = record { first = b; others = s ++ tail; split = refl; is = and_left (is_digit_or_point b) (list_all is_digit_or_point s) g }
+run_starts (b ∷ s) tail h g =
+    record { first = b; others = s ++ tail; split = refl; is = and_left (is_digit_or_point b) (list_all is_digit_or_point s) g }
 
 pub number_starts : (text : List ℕ) → IsNumberText text → StartsBy InRun text
 number_starts text h = subst (StartsBy InRun) (sym h.spelled) (run_starts h.run (exponent_text h.exponent) h.some h.digits_and_points)
@@ -54,7 +56,8 @@ abbrev pub AllOf : (List ℕ → Type 0) → List (List ℕ) → Type 0
 AllOf P [] = Unit {0}
 AllOf P (x ∷ xs) = P x × AllOf P xs
 
-one_by : (P : List ℕ → Type 0) (text x : List ℕ) (xs : List (List ℕ)) (b : Bool) → bytes_eq text x ≡ b → (b || list_any (bytes_eq text) xs) ≡ true → P x →
+one_by : (P : List ℕ → Type 0) (text x : List ℕ) (xs : List (List ℕ)) (b : Bool) → bytes_eq text x ≡ b
+    → (b || list_any (bytes_eq text) xs) ≡ true → P x →
     (list_any (bytes_eq text) xs ≡ true → P text) → P text
 one_by P text x xs true e h k f = subst P (sym (same_text text x (sym e))) k
 one_by P text x xs false e h k f = f h
@@ -74,11 +77,43 @@ two_bytes : (b c : ℕ) → Other b → IsShort (b ∷ c ∷ [])
 two_bytes b c h = (record { first = b; others = c ∷ []; split = refl; is = h }, omega arith)
 
 all_short : AllOf IsShort symbols
-all_short =
-    (two_bytes 38 38 (refl, refl, refl), (two_bytes 124 124 (refl, refl, refl), (one_byte 33 (refl, refl, refl), (one_byte 40 (refl, refl, refl),
-    (one_byte 41 (refl, refl, refl), (one_byte 123 (refl, refl, refl), (one_byte 125 (refl, refl, refl), (one_byte 91 (refl, refl, refl),
-    (one_byte 93 (refl, refl, refl), (one_byte 44 (refl, refl, refl), (one_byte 126 (refl, refl, refl), (two_bytes 60 61 (refl, refl, refl),
-    (two_bytes 62 61 (refl, refl, refl), (one_byte 60 (refl, refl, refl), (one_byte 62 (refl, refl, refl), tt)))))))))))))))
+all_short = (
+  two_bytes 38 38 (refl, refl, refl),
+  (
+    two_bytes 124 124 (refl, refl, refl),
+    (
+      one_byte 33 (refl, refl, refl),
+      (
+        one_byte 40 (refl, refl, refl),
+        (
+          one_byte 41 (refl, refl, refl),
+          (
+            one_byte 123 (refl, refl, refl),
+            (
+              one_byte 125 (refl, refl, refl),
+              (
+                one_byte 91 (refl, refl, refl),
+                (
+                  one_byte 93 (refl, refl, refl),
+                  (
+                    one_byte 44 (refl, refl, refl),
+                    (
+                      one_byte 126 (refl, refl, refl),
+                      (
+                        two_bytes 60 61 (refl, refl, refl),
+                        (two_bytes 62 61 (refl, refl, refl), (one_byte 60 (refl, refl, refl), (one_byte 62 (refl, refl, refl), tt))),
+                      ),
+                    ),
+                  ),
+                ),
+              ),
+            ),
+          ),
+        ),
+      ),
+    ),
+  ),
+)
 
 pub symbol_short : (text : List ℕ) → is_symbol text ≡ true → IsShort text
 symbol_short text h = one_of IsShort text symbols h all_short
@@ -111,7 +146,8 @@ symbol_number : (b : ℕ) → Other b → InRun b → ⊥
 symbol_number b h g = both_ways (is_digit_or_point b) g h.1
 
 -- a run isn't longer than the longest one
-run_length : {w v a k : List ℕ} {p : ℕ → Bool} → ((w ≡ v) × (a ≡ k)) ⊎ ((b : ℕ) × (m : List ℕ) × (p b ≡ true) × (k ≡ b ∷ m) × (length v < length w)) → length v ≤ length w
+run_length : {w v a k : List ℕ} {p : ℕ → Bool}
+    → ((w ≡ v) × (a ≡ k)) ⊎ ((b : ℕ) × (m : List ℕ) × (p b ≡ true) × (k ≡ b ∷ m) × (length v < length w)) → length v ≤ length w
 run_length (inl (e, g)) = omega (arith, ap length e)
 run_length (inr (b, m, h, e, l)) = omega (arith, l)
 
@@ -128,7 +164,8 @@ word_before bytes w a e h s = record {
   longest = λ v k g f. word_longest w a v k h s (sym e ∙ g) f;
 }
 
-symbol_by : (w a v k : List ℕ) → IsShort w → IsShort v → is_symbol v ≡ true → ((b : ℕ) (more : List ℕ) → a ≡ b ∷ more → is_symbol (w ++ b ∷ []) ≡ false) → w ++ a ≡ v ++ k →
+symbol_by : (w a v k : List ℕ) → IsShort w → IsShort v → is_symbol v ≡ true
+    → ((b : ℕ) (more : List ℕ) → a ≡ b ∷ more → is_symbol (w ++ b ∷ []) ≡ false) → w ++ a ≡ v ++ k →
     length v ≤ length w
 symbol_by [] a v k h f g s e = absurd (nothing_first h.0.first h.0.others h.0.split)
 symbol_by (b ∷ c ∷ w) a v k h f g s e = omega (arith, f.1)
@@ -170,17 +207,22 @@ letter_no_run b (inr e) = ap is_digit_or_point e
 -- what follows the run doesn't go on with it
 after_run : (x : Option ExponentSpelling) (a : List ℕ) → IsExponent x → EndsNumber x a → EndsRun is_digit_or_point (exponent_text x ++ a)
 after_run None a w s b more e = s.0 b more e
-after_run (Some x) a w s b more e = ap is_digit_or_point (sym (same_first x.letter b ((sign_text x.sign ++ x.digits) ++ a) more e)) ∙ letter_no_run x.letter w.letter
+after_run (Some x) a w s b more e =
+    ap is_digit_or_point (sym (same_first x.letter b ((sign_text x.sign ++ x.digits) ++ a) more e)) ∙ letter_no_run x.letter w.letter
 
-sign_clash : (c d : ℕ) (ds v a k : List ℕ) → is_ascii_digit d ≡ false → list_all is_ascii_digit ds ≡ true → 0 < length ds → ds ++ a ≡ d ∷ (v ++ k) → ⊥
+sign_clash : (c d : ℕ) (ds v a k : List ℕ) → is_ascii_digit d ≡ false → list_all is_ascii_digit ds ≡ true → 0 < length ds
+    → ds ++ a ≡ d ∷ (v ++ k) → ⊥
 sign_clash c d [] v a k h g l e = nothing_below l
 sign_clash c d (b ∷ ds) v a k h g l e =
-    both_ways (is_ascii_digit b) (and_left (is_ascii_digit b) (list_all is_ascii_digit ds) g) (ap is_ascii_digit (same_first b d (ds ++ a) (v ++ k) e) ∙ h)
+    both_ways (is_ascii_digit b) (and_left (is_ascii_digit b) (list_all is_ascii_digit ds) g)
+    (ap is_ascii_digit (same_first b d (ds ++ a) (v ++ k) e) ∙ h)
 
-digits_longest : (ds vs a k : List ℕ) → list_all is_ascii_digit ds ≡ true → list_all is_ascii_digit vs ≡ true → EndsRun is_ascii_digit a → ds ++ a ≡ vs ++ k → length vs ≤ length ds
+digits_longest : (ds vs a k : List ℕ) → list_all is_ascii_digit ds ≡ true → list_all is_ascii_digit vs ≡ true → EndsRun is_ascii_digit a
+    → ds ++ a ≡ vs ++ k → length vs ≤ length ds
 digits_longest ds vs a k h g s e = run_length (split_same is_ascii_digit ds vs a k h g s e)
 
-signed_longest : (s t : Sign) (ds vs a k : List ℕ) → list_all is_ascii_digit ds ≡ true → list_all is_ascii_digit vs ≡ true → 0 < length ds → 0 < length vs → EndsRun is_ascii_digit a →
+signed_longest : (s t : Sign) (ds vs a k : List ℕ) → list_all is_ascii_digit ds ≡ true → list_all is_ascii_digit vs ≡ true → 0 < length ds
+    → 0 < length vs → EndsRun is_ascii_digit a →
     (sign_text s ++ ds) ++ a ≡ (sign_text t ++ vs) ++ k → length (sign_text t ++ vs) ≤ length (sign_text s ++ ds)
 signed_longest NoSign NoSign ds vs a k h g m n r e = digits_longest ds vs a k h g r e
 signed_longest Plus Plus ds vs a k h g m n r e = omega (arith, digits_longest ds vs a k h g r (same_rest 43 43 (ds ++ a) (vs ++ k) e))
@@ -192,39 +234,53 @@ signed_longest Minus NoSign ds vs a k h g m n r e = absurd (sign_clash 0 45 vs d
 signed_longest Plus Minus ds vs a k h g m n r e = let c : 43 ≡ 45 = same_first 43 45 (ds ++ a) (vs ++ k) e in omega (arith, c)
 signed_longest Minus Plus ds vs a k h g m n r e = let c : 45 ≡ 43 = same_first 45 43 (ds ++ a) (vs ++ k) e in omega (arith, c)
 
-exponent_longest : (x y : Option ExponentSpelling) (a k : List ℕ) → IsExponent x → IsExponent y → EndsNumber x a → exponent_text x ++ a ≡ exponent_text y ++ k →
+exponent_longest : (x y : Option ExponentSpelling) (a k : List ℕ) → IsExponent x → IsExponent y → EndsNumber x a
+    → exponent_text x ++ a ≡ exponent_text y ++ k →
     length (exponent_text y) ≤ length (exponent_text x)
 exponent_longest x None a k w u s e = omega arith
 exponent_longest None (Some y) a k w u s e = absurd (s.1 y k u e)
 exponent_longest (Some x) (Some y) a k w u s e =
-    omega (arith, signed_longest x.sign y.sign x.digits y.digits a k (digits_are x.digits w.digits.1) (digits_are y.digits u.digits.1) w.digits.0 u.digits.0 s
-      (same_rest x.letter y.letter ((sign_text x.sign ++ x.digits) ++ a) ((sign_text y.sign ++ y.digits) ++ k) e))
+    omega (
+      arith,
+      signed_longest x.sign y.sign x.digits y.digits a k (digits_are x.digits w.digits.1) (digits_are y.digits u.digits.1) w.digits.0
+          u.digits.0 s
+          (same_rest x.letter y.letter ((sign_text x.sign ++ x.digits) ++ a) ((sign_text y.sign ++ y.digits) ++ k) e),
+    )
 
-no_letter_in_run : (b : ℕ) (m k : List ℕ) (y : ExponentSpelling) → IsWritten y → is_digit_or_point b ≡ true → exponent_text (Some y) ++ k ≡ b ∷ m → ⊥
+no_letter_in_run : (b : ℕ) (m k : List ℕ) (y : ExponentSpelling) → IsWritten y → is_digit_or_point b ≡ true
+    → exponent_text (Some y) ++ k ≡ b ∷ m → ⊥
 no_letter_in_run b m k y w h e =
-    both_ways (is_digit_or_point b) h (ap is_digit_or_point (sym (same_first y.letter b ((sign_text y.sign ++ y.digits) ++ k) m e)) ∙ letter_no_run y.letter w.letter)
+    both_ways (is_digit_or_point b) h
+    (ap is_digit_or_point (sym (same_first y.letter b ((sign_text y.sign ++ y.digits) ++ k) m e)) ∙ letter_no_run y.letter w.letter)
 
 number_by : (r v a k : List ℕ) (x y : Option ExponentSpelling) → IsExponent x → IsExponent y → EndsNumber x a →
-    ((r ≡ v) × (exponent_text x ++ a ≡ exponent_text y ++ k)) ⊎ ((b : ℕ) × (m : List ℕ) × (is_digit_or_point b ≡ true) × (exponent_text y ++ k ≡ b ∷ m) × (length v < length r)) →
+    ((r ≡ v) × (exponent_text x ++ a ≡ exponent_text y ++ k))
+    ⊎ ((b : ℕ) × (m : List ℕ) × (is_digit_or_point b ≡ true) × (exponent_text y ++ k ≡ b ∷ m) × (length v < length r)) →
     length v + length (exponent_text y) ≤ length r + length (exponent_text x)
 number_by r v a k x y w u s (inl (e, g)) = omega (arith, ap length e, exponent_longest x y a k w u s g)
 number_by r v a k x None w u s (inr (b, m, h, g, l)) = omega (arith, l)
 number_by r v a k x (Some y) w u s (inr (b, m, h, g, l)) = absurd (no_letter_in_run b m k y u h g)
 
 -- one number's text beside another at the head of the same bytes
-numbers : (r v a k : List ℕ) (x y : Option ExponentSpelling) → list_all is_digit_or_point r ≡ true → list_all is_digit_or_point v ≡ true → IsExponent x → IsExponent y → EndsNumber x a →
+numbers : (r v a k : List ℕ) (x y : Option ExponentSpelling) → list_all is_digit_or_point r ≡ true → list_all is_digit_or_point v ≡ true
+    → IsExponent x → IsExponent y → EndsNumber x a →
     (r ++ exponent_text x) ++ a ≡ (v ++ exponent_text y) ++ k → length (v ++ exponent_text y) ≤ length (r ++ exponent_text x)
 numbers r v a k x y h g w u s e =
     let split = split_same is_digit_or_point r v (exponent_text x ++ a) (exponent_text y ++ k) h g (after_run x a w s)
-      (sym (append_assoc r (exponent_text x) a) ∙ e ∙ append_assoc v (exponent_text y) k) in
+    (sym (append_assoc r (exponent_text x) a) ∙ e ∙ append_assoc v (exponent_text y) k) in
     omega (arith, length-append v (exponent_text y), length-append r (exponent_text x), number_by r v a k x y w u s split)
 
 number_longest : (w a v k : List ℕ) (n : IsNumberText w) → EndsNumber n.exponent a → w ++ a ≡ v ++ k → IsTokenText v → length v ≤ length w
 number_longest w a v k n s e (inl g) = absurd (clash number_word w v a k (number_starts w n) (word_starts v g) e)
 number_longest w a v k n s e (inr (inr g)) = absurd (clash number_symbol w v a k (number_starts w n) ((symbol_short v g).0) e)
 number_longest w a v k n s e (inr (inl g)) =
-    omega (arith, ap length n.spelled, ap length g.spelled, numbers n.run g.run a k n.exponent g.exponent n.digits_and_points g.digits_and_points n.written g.written s
-      (ap (λ x. x ++ a) (sym n.spelled) ∙ e ∙ ap (λ x. x ++ k) g.spelled))
+    omega (
+      arith,
+      ap length n.spelled,
+      ap length g.spelled,
+      numbers n.run g.run a k n.exponent g.exponent n.digits_and_points g.digits_and_points n.written g.written s
+          (ap (λ x. x ++ a) (sym n.spelled) ∙ e ∙ ap (λ x. x ++ k) g.spelled),
+    )
 
 -- what begins as a number, where what follows doesn't go on with it
 pub number_before : (bytes w a : List ℕ) (n : IsNumberText w) → bytes ≡ w ++ a → EndsNumber n.exponent a → IsTokenBefore bytes w a

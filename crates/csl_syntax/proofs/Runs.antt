@@ -1,5 +1,6 @@
 -- Runs of bytes that pass a test, and the bytes with which tokens begin.
-use Rattle.std.proofs.Common.{◌≡◌, ℕ, zero, suc, ◌+◌, ◌<◌, ◌≤◌, ◌⊎◌, inl, inr, Bool, true, false, ◌&&◌, ◌||◌, ◌==◌, List, [], ◌∷◌, ◌++◌, length, refl, sym, ◌∙◌, ap, arith, cond}
+use Rattle.std.proofs.Common.{◌≡◌, ℕ, ◌+◌, ◌<◌, ◌⊎◌, inl, inr, Bool, true, false, ◌&&◌, List, [], ◌∷◌, ◌++◌, length, refl, sym, ◌∙◌}
+use Rattle.std.proofs.Common.{arith}
 use Rattle.std.proofs.lemmas.Bool.Decides.{nat_tests}
 use Rattle.std.specs.Char.{is_ascii_digit, digit_value}
 use Rattle.std.specs.List.{list_all}
@@ -40,7 +41,8 @@ nothing_first b s e = cc
 
 -- two runs at the head of the same bytes, the first of them a longest one
 module _ (p : ℕ → Bool) where
-  longer : (b c : ℕ) (w v a k : List ℕ) → b ≡ c → ((w ≡ v) × (a ≡ k)) ⊎ ((x : ℕ) × (m : List ℕ) × (p x ≡ true) × (k ≡ x ∷ m) × (length v < length w)) →
+  longer : (b c : ℕ) (w v a k : List ℕ) → b ≡ c
+      → ((w ≡ v) × (a ≡ k)) ⊎ ((x : ℕ) × (m : List ℕ) × (p x ≡ true) × (k ≡ x ∷ m) × (length v < length w)) →
       ((b ∷ w ≡ c ∷ v) × (a ≡ k)) ⊎ ((x : ℕ) × (m : List ℕ) × (p x ≡ true) × (k ≡ x ∷ m) × (length (c ∷ v) < length (b ∷ w)))
   longer b c w v a k e (inl (h, g)) = inl (cc, g)
   longer b c w v a k e (inr (x, m, h, g, l)) = inr (x, m, h, g, omega (arith, l))
@@ -52,7 +54,7 @@ module _ (p : ℕ → Bool) where
   split_same (b ∷ w) [] a k h g s e = inr (b, w ++ a, and_left (p b) (list_all p w) h, sym e, omega arith)
   split_same (b ∷ w) (c ∷ v) a k h g s e =
       longer b c w v a k (same_first b c (w ++ a) (v ++ k) e)
-        (split_same w v a k (and_right (p b) (list_all p w) h) (and_right (p c) (list_all p v) g) s (same_rest b c (w ++ a) (v ++ k) e))
+      (split_same w v a k (and_right (p b) (list_all p w) h) (and_right (p c) (list_all p v) g) s (same_rest b c (w ++ a) (v ++ k) e))
 
 -- a word's first byte, a number's and a blank differ
 pub word_no_number : (b : ℕ) → begins_name b ≡ true → is_digit_or_point b ≡ true → ⊥
@@ -82,4 +84,8 @@ digits_are (c ∷ ds) (h, g) = and_both (is_ascii_digit c) (list_all is_ascii_di
 
 pub digits_read : (ds : List ℕ) → list_all is_ascii_digit ds ≡ true → AllDigits 10 ds
 digits_read [] h = tt
-digits_read (c ∷ ds) h = (digit_reads c (and_left (is_ascii_digit c) (list_all is_ascii_digit ds) h), digits_read ds (and_right (is_ascii_digit c) (list_all is_ascii_digit ds) h))
+digits_read (c ∷ ds) h = (
+  digit_reads c (and_left (is_ascii_digit c) (list_all is_ascii_digit ds) h),
+  digits_read ds
+      (and_right (is_ascii_digit c) (list_all is_ascii_digit ds) h),
+)

@@ -1,16 +1,16 @@
 -- The tokens of a line, and what is wrong with it, are no others.
-use Rattle.std.proofs.Common.{◌≡◌, ℕ, ◌+◌, ◌≤◌, ◌<◌, ◌⊎◌, inl, inr, true, List, [], ◌∷◌, ◌++◌, length, refl, sym, ◌∙◌, ap, subst, arith, append_assoc}
-use Rattle.std.specs.Prelude.{IsTrue}
+use Rattle.std.proofs.Common.{◌≡◌, ℕ, ◌+◌, ◌≤◌, ◌<◌, ◌⊎◌, inl, inr, true, List, [], ◌∷◌, ◌++◌, length, refl, sym, ◌∙◌, ap, subst, arith}
+use Rattle.std.proofs.Common.{append_assoc}
 use Rattle.text_lines.specs.Words.{is_blank}
 use Rattle.csl_syntax.specs.declared.fault.FormulaWhat.{FormulaWhat}
 use Rattle.csl_syntax.specs.declared.fault.FormulaWhat.TheVariants as what
-use Rattle.csl_syntax.specs.declared.limits.TheConstants.{MOST_BYTES, MOST_NESTED}
+use Rattle.csl_syntax.specs.declared.limits.TheConstants.{MOST_BYTES}
 use Rattle.csl_syntax.specs.declared.token.Token.{Token}
-use Rattle.csl_syntax.specs.declared.token.Token.TheVariants.{Name, Compare, Number}
+use Rattle.csl_syntax.specs.declared.token.Token.TheVariants.{Name, Number}
 use Rattle.csl_syntax.specs.Tree.{Tree}
 use Rattle.csl_syntax.specs.TokenText.{IsTokenBefore}
 use Rattle.csl_syntax.specs.Tokens.{Writes, BeginsWithToken, HasTokens, no_more, skip, take_token}
-use Rattle.csl_syntax.specs.Grammar.{Limits, Spells, BeginsWithin, Begins, IsSpelled}
+use Rattle.csl_syntax.specs.Grammar.{Limits, Spells, BeginsWithin, IsSpelled}
 use Rattle.csl_syntax.specs.FormulaText.{line_limits, FormulaSays}
 use Rattle.csl_syntax.specs.FormulaFault.{HasNoToken, HasFaultyNumber, FailsBy, LineFailsAt, FormulaFaultAt}
 use Rattle.csl_syntax.specs.Laws.{OneFormula, OneFormulaFault, FormulaHasNoFault}
@@ -24,17 +24,20 @@ append_nil [] = refl
 append_nil (t ∷ s) = ap (λ v. t ∷ v) (append_nil s)
 
 module _ (labels : List (List ℕ)) where
-  pub has-append : {s a b : List ℕ} {ts us : List Token} → HasTokens labels s ts a → HasTokens labels a us b → HasTokens labels s (ts ++ us) b
+  pub has-append : {s a b : List ℕ} {ts us : List Token} → HasTokens labels s ts a → HasTokens labels a us b
+      → HasTokens labels s (ts ++ us) b
   has-append no_more y = y
   has-append (skip e h x) y = skip e h (has-append x y)
   has-append (take_token h x) y = take_token h (has-append x y)
 
   -- one token more
-  pub has-token : {s a b : List ℕ} {ts : List Token} {t : Token} → HasTokens labels s ts a → BeginsWithToken labels a t b → HasTokens labels s (ts ++ t ∷ []) b
+  pub has-token : {s a b : List ℕ} {ts : List Token} {t : Token} → HasTokens labels s ts a → BeginsWithToken labels a t b
+      → HasTokens labels s (ts ++ t ∷ []) b
   has-token x h = has-append x (take_token h no_more)
 
   -- one blank more
-  pub has-blank : {s a m : List ℕ} {b : ℕ} {ts : List Token} → HasTokens labels s ts a → a ≡ b ∷ m → is_blank b ≡ true → HasTokens labels s ts m
+  pub has-blank : {s a m : List ℕ} {b : ℕ} {ts : List Token} → HasTokens labels s ts a → a ≡ b ∷ m → is_blank b ≡ true
+      → HasTokens labels s ts m
   has-blank {s} {a} {m} {b} {ts} x e h = subst (λ v. HasTokens labels s v m) (append_nil ts) (has-append x (skip e h no_more))
 
   -- where no bytes are left there are no more tokens
@@ -85,7 +88,8 @@ module _ (labels : List (List ℕ)) where
   place ts r what.Number h = inr (inl (h, refl))
   place ts r what.Expected h = expected_place ts r h
   place ts r what.UnknownLabel h = inr (inr (inr (Name h.place, h.more, h.next, (h.place, refl, h.expected, h.unknown))))
-  place ts r what.Threshold h = inr (inr (inr (Number h.value, h.more, h.next, (h.op, h.earlier, h.value, h.after_op, refl, h.expected, h.great))))
+  place ts r what.Threshold h =
+      inr (inr (inr (Number h.value, h.more, h.next, (h.op, h.earlier, h.value, h.after_op, refl, h.expected, h.great))))
   place ts r what.Depth h = inr (inr (inr (h.token, h.more, h.next, (h.encloses, h.expected, h.deep))))
   place ts r what.Length h = absurd h
 
@@ -101,7 +105,8 @@ module _ (labels : List (List ℕ)) where
   no_token_end r h e = nothing_first h.first h.others (sym e ∙ h.stands)
 
   -- no token that passes stands where the line fails
-  fails_token : (ts : List Token) (r : List ℕ) (v : FormulaWhat) (t : Token) (m : List ℕ) → BeginsWithin (line_limits labels) ts → Place ts r v → BeginsWithToken labels r t m →
+  fails_token : (ts : List Token) (r : List ℕ) (v : FormulaWhat) (t : Token) (m : List ℕ) → BeginsWithin (line_limits labels) ts
+      → Place ts r v → BeginsWithToken labels r t m →
       ¬ BeginsWithin (line_limits labels) (ts ++ t ∷ [])
   fails_token ts r v t m p (inl (h, e)) g b = no_token r g.text m h g.longest
   fails_token ts r v t m p (inr (inl (h, e))) g b = number_token r t m h g
@@ -118,13 +123,15 @@ module _ (labels : List (List ℕ)) where
   fails_blank ts r v b m (inr (inr (inr (u, a, h, g)))) f k = not_blank r h.text a b m h.longest f k
 
   -- the tokens that pass don't go on where the line fails
-  stays : (ts : List Token) (r b : List ℕ) (v : FormulaWhat) {more : List Token} → BeginsWithin (line_limits labels) ts → Place ts r v → HasTokens labels r more b →
+  stays : (ts : List Token) (r b : List ℕ) (v : FormulaWhat) {more : List Token} → BeginsWithin (line_limits labels) ts → Place ts r v
+      → HasTokens labels r more b →
       BeginsWithin (line_limits labels) (ts ++ more) → (more ≡ []) × (r ≡ b)
   stays ts r b v p f no_more q = (refl, refl)
   stays ts r b v p f (skip {more = m} {b = c} e h x) q = absurd (fails_blank ts r v c m f e h)
   stays ts r b v p f (take_token {more = m} {t = t} {ts = us} h x) q =
       absurd (fails_token ts r v t m p f h
-        (front_begins (line_limits labels) (ts ++ t ∷ []) us (subst (BeginsWithin (line_limits labels)) (sym (append_assoc ts (t ∷ []) us)) q)))
+      (front_begins (line_limits labels) (ts ++ t ∷ []) us
+      (subst (BeginsWithin (line_limits labels)) (sym (append_assoc ts (t ∷ []) us)) q)))
 
   one_place : (ts : List Token) (r : List ℕ) (v w : FormulaWhat) → Place ts r v → Place ts r w → v ≡ w
   one_place ts r v w (inl (h, e)) (inl (g, f)) = e ∙ sym f
@@ -146,23 +153,32 @@ module _ (labels : List (List ℕ)) where
       let same = one_token labels r t u a k h g in
       one_failure (length labels) ts u v w (subst (λ x. TokenFails (length labels) ts x v) same.0 e) f
 
-  places : (line : List ℕ) (k l : ℕ) (v w : FormulaWhat) (f : LineFailsAt line labels k v) (g : LineFailsAt line labels l w) → f.rest ≡ g.rest → f.before ≡ g.before →
+  places : (line : List ℕ) (k l : ℕ) (v w : FormulaWhat) (f : LineFailsAt line labels k v) (g : LineFailsAt line labels l w)
+      → f.rest ≡ g.rest → f.before ≡ g.before →
       (k ≡ l) × (v ≡ w)
   places line k l v w f g e h =
-      let same : length f.rest ≡ length g.rest = ap length e in
-      (omega (arith, f.here, g.here, same),
-       one_place g.before g.rest v w (subst (λ x. Place x g.rest v) h (subst (λ x. Place f.before x v) e (place f.before f.rest v f.fails))) (place g.before g.rest w g.fails))
+      let same : length f.rest ≡ length g.rest = ap length e in (
+        omega (arith, f.here, g.here, same),
+        one_place g.before g.rest v w (subst (λ x. Place x g.rest v) h
+            (subst (λ x. Place f.before x v) e (place f.before f.rest v f.fails))) (place g.before g.rest w g.fails),
+      )
 
-  one_failure_of : (line : List ℕ) (k l : ℕ) (v w : FormulaWhat) (f : LineFailsAt line labels k v) (g : LineFailsAt line labels l w) → Meets f.before f.rest g.before g.rest →
+  one_failure_of : (line : List ℕ) (k l : ℕ) (v w : FormulaWhat) (f : LineFailsAt line labels k v) (g : LineFailsAt line labels l w)
+      → Meets f.before f.rest g.before g.rest →
       (k ≡ l) × (v ≡ w)
   one_failure_of line k l v w f g (inl (more, e, x)) =
-      let i = stays f.before f.rest g.rest v f.pass (place f.before f.rest v f.fails) x (subst (BeginsWithin (line_limits labels)) e g.pass) in
+      let i =
+      stays f.before f.rest g.rest v f.pass (place f.before f.rest v f.fails) x (subst (BeginsWithin (line_limits labels)) e g.pass)
+      in
       places line k l v w f g i.1 (sym (e ∙ ap (λ x. f.before ++ x) i.0 ∙ append_nil f.before))
   one_failure_of line k l v w f g (inr (more, e, x)) =
-      let i = stays g.before g.rest f.rest w g.pass (place g.before g.rest w g.fails) x (subst (BeginsWithin (line_limits labels)) e f.pass) in
+      let i =
+      stays g.before g.rest f.rest w g.pass (place g.before g.rest w g.fails) x (subst (BeginsWithin (line_limits labels)) e f.pass)
+      in
       places line k l v w f g (sym i.1) (e ∙ ap (λ x. g.before ++ x) i.0 ∙ append_nil g.before)
 
-  one_line_failure : (line : List ℕ) (k l : ℕ) (v w : FormulaWhat) → LineFailsAt line labels k v → LineFailsAt line labels l w → (k ≡ l) × (v ≡ w)
+  one_line_failure : (line : List ℕ) (k l : ℕ) (v w : FormulaWhat) → LineFailsAt line labels k v → LineFailsAt line labels l w
+      → (k ≡ l) × (v ≡ w)
   one_line_failure line k l v w f g = one_failure_of line k l v w f g (meets f.has g.has)
 
   says_place : (line : List ℕ) (f : Tree) (h : FormulaSays line labels f) (r : List ℕ) (v : FormulaWhat) → r ≡ [] → Place h.tokens r v → ⊥
@@ -174,14 +190,18 @@ module _ (labels : List (List ℕ)) where
   spelled_begins : (f : Tree) (ts : List Token) → Spells (line_limits labels) ts f → BeginsWithin (line_limits labels) ts
   spelled_begins f ts x = ([], f, subst (λ v. Spells (line_limits labels) v f) (sym (append_nil ts)) x)
 
-  says_or_fails : (line : List ℕ) (f : Tree) (k : ℕ) (v : FormulaWhat) (h : FormulaSays line labels f) (g : LineFailsAt line labels k v) → Meets h.tokens [] g.before g.rest → ⊥
+  says_or_fails : (line : List ℕ) (f : Tree) (k : ℕ) (v : FormulaWhat) (h : FormulaSays line labels f) (g : LineFailsAt line labels k v)
+      → Meets h.tokens [] g.before g.rest → ⊥
   says_or_fails line f k v h g (inl (more, e, x)) =
       let i = at_end x refl in
       says_place line f h g.rest v (sym i.1)
-        (subst (λ u. Place u g.rest v) (e ∙ ap (λ u. h.tokens ++ u) i.0 ∙ append_nil h.tokens) (place g.before g.rest v g.fails))
+      (subst (λ u. Place u g.rest v) (e ∙ ap (λ u. h.tokens ++ u) i.0 ∙ append_nil h.tokens) (place g.before g.rest v g.fails))
   says_or_fails line f k v h g (inr (more, e, x)) =
-      let i = stays g.before g.rest [] v g.pass (place g.before g.rest v g.fails) x (subst (BeginsWithin (line_limits labels)) e (spelled_begins f h.tokens h.spells)) in
-      says_place line f h g.rest v i.1 (subst (λ u. Place u g.rest v) (sym (e ∙ ap (λ u. g.before ++ u) i.0 ∙ append_nil g.before)) (place g.before g.rest v g.fails))
+      let i =
+      stays g.before g.rest [] v g.pass (place g.before g.rest v g.fails) x
+      (subst (BeginsWithin (line_limits labels)) e (spelled_begins f h.tokens h.spells)) in
+      says_place line f h g.rest v i.1
+      (subst (λ u. Place u g.rest v) (sym (e ∙ ap (λ u. g.before ++ u) i.0 ∙ append_nil g.before)) (place g.before g.rest v g.fails))
 
   says_not_fails : (line : List ℕ) (f : Tree) (k : ℕ) (v : FormulaWhat) → FormulaSays line labels f → LineFailsAt line labels k v → ⊥
   says_not_fails line f k v h g = says_or_fails line f k v h g (meets h.has g.has)
@@ -214,7 +234,8 @@ faulty line labels k what.UnknownLabel h = inr h
 faulty line labels k what.Threshold h = inr h
 faulty line labels k what.Depth h = inr h
 
-one_fault : (line : List ℕ) (labels : List (List ℕ)) (k l : ℕ) (v w : FormulaWhat) → Faulty line labels k v → Faulty line labels l w → (k ≡ l) × (v ≡ w)
+one_fault : (line : List ℕ) (labels : List (List ℕ)) (k l : ℕ) (v w : FormulaWhat) → Faulty line labels k v → Faulty line labels l w
+    → (k ≡ l) × (v ≡ w)
 one_fault line labels k l v w (inl (h, a, b)) (inl (g, c, d)) = (a ∙ sym c, b ∙ sym d)
 one_fault line labels k l v w (inl (h, a, b)) (inr g) = absurd (too_long line h g.short)
 one_fault line labels k l v w (inr h) (inl (g, c, d)) = absurd (too_long line g h.short)
@@ -223,7 +244,8 @@ one_fault line labels k l v w (inr h) (inr g) = one_line_failure labels line k l
 pub fault_is_one : OneFormulaFault
 fault_is_one line labels k l v w h g = one_fault line labels k l v w (faulty line labels k v h) (faulty line labels l w g)
 
-not_both : (line : List ℕ) (labels : List (List ℕ)) (f : Tree) (k : ℕ) (v : FormulaWhat) → FormulaSays line labels f → Faulty line labels k v → ⊥
+not_both : (line : List ℕ) (labels : List (List ℕ)) (f : Tree) (k : ℕ) (v : FormulaWhat) → FormulaSays line labels f
+    → Faulty line labels k v → ⊥
 not_both line labels f k v h (inl (g, a, b)) = too_long line g h.short
 not_both line labels f k v h (inr g) = says_not_fails labels line f k v h g
 

@@ -1,23 +1,21 @@
 -- The fault of a token, by what the machine does with it.
-use Rattle.std.proofs.Common.{◌≡◌, ℕ, zero, suc, ◌+◌, ◌<◌, ◌≤◌, ◌*◌, ◌^◌, ◌⊎◌, inl, inr, Bool, true, false, nat_lt, nat_le, List, [], ◌∷◌, ◌++◌, Option, Some, None, refl, sym, ◌∙◌, ap, subst, arith}
-use Rattle.std.proofs.lemmas.Bool.{lt-ltb, ltb-true, le-leb, leb-true}
+use Rattle.std.proofs.Common.{◌≡◌, ℕ, ◌<◌, ◌≤◌, ◌*◌, ◌^◌, ◌⊎◌, inl, inr, Bool, true, false, nat_lt, nat_le, List, [], ◌∷◌, ◌++◌, Option}
+use Rattle.std.proofs.Common.{Some, None, refl, sym, ◌∙◌, ap, subst, arith}
+use Rattle.std.proofs.lemmas.Bool.{ltb-true, leb-true}
 use Rattle.decimal_text.specs.DecimalNumber.{DecimalNumber}
 use Rattle.csl_syntax.specs.declared.fault.FormulaWhat.{FormulaWhat}
 use Rattle.csl_syntax.specs.declared.fault.FormulaWhat.TheVariants as what
 use Rattle.csl_syntax.specs.declared.token.Token.{Token}
-use Rattle.csl_syntax.specs.declared.token.Token.TheVariants.{Truth, Falsehood, Name, ProbabilityWord, NextWord, UntilWord, Bang, AndAnd, OrOr, OpenParen, CloseParen, OpenBrace, CloseBrace, OpenBracket, CloseBracket, Comma, Tilde, Compare, Number}
+use Rattle.csl_syntax.specs.declared.token.Token.TheVariants.{Name, Compare, Number}
 use Rattle.csl_syntax.specs.declared.formula.Op.{Op}
-use Rattle.csl_syntax.specs.declared.formula.Op.TheVariants.{Less}
-use Rattle.csl_syntax.specs.declared.formula.Bound.{Bound}
-use Rattle.csl_syntax.specs.declared.formula.Bound.TheVariants.{Unbounded, Time, Reward}
-use Rattle.csl_syntax.specs.Tree.{Tree, truth, falsehood, label, negation, conjunction, disjunction, next, until, IsUpTo}
-use Rattle.csl_syntax.specs.Grammar.{Limits, formula, conj, unary, atom, Derives, BeginsWithin, Begins, IsSpelled}
-use Rattle.csl_syntax.specs.Machine.{Layer, Kind, parens, of_next, until_left, until_right, Phase, p_brace, p_op, p_number, p_close, p_bracket, p_path, u_start, u_zero, u_comma, u_limit, u_close, u_any, u_again, v_zero, v_comma, v_limit, v_close, layer, headed, more, named, judged, in_more, in_want, zero_then, closed_as, boxed_as, turned_as, boxed, turned, operand, State, want, have, stopped, start, negated, back, with_both, with_either, closed, bang, opened, step, run, whole_of, whole}
+use Rattle.csl_syntax.specs.declared.formula.Bound.TheVariants.{Unbounded}
+use Rattle.csl_syntax.specs.Tree.{Tree, IsUpTo}
+use Rattle.csl_syntax.specs.Grammar.{BeginsWithin, Begins}
+use Rattle.csl_syntax.specs.Machine.{Layer, until_left, until_right, p_op, p_number, p_path, u_start, u_again, layer, more, named, judged}
+use Rattle.csl_syntax.specs.Machine.{State, want, have, stopped, start, step, run}
 use Rattle.csl_syntax.specs.FormulaFault.{IsEnclosing}
-use Rattle.csl_syntax.specs.Machine.{in_have}
-use Rattle.decimal_text.proofs.FixedDigits.{ten_pos}
 use Rattle.csl_syntax.specs.declared.limits.TheConstants.{MOST_NESTED}
-use Rattle.csl_syntax.proofs.Endings.{IsGoing, limits, run-one, run-stopped, goes_on, stops, goes}
+use Rattle.csl_syntax.proofs.Endings.{IsGoing, limits, run-one, stops, goes}
 use Rattle.csl_syntax.proofs.Wider.{IsExpected}
 use Rattle.csl_syntax.proofs.Follows.{number_place, StopsFor, Follows, follows}
 use Rattle.csl_syntax.proofs.Stops.{unexpected, expected}
@@ -26,7 +24,8 @@ none_is_some : {A : Type 0} (a : A) → None ≡ Some a → ⊥
 none_is_some a e = cc
 
 -- a list has a last token or is empty
-last_of : (t : Token) (s : List Token) → (s ≡ []) ⊎ ((front : List Token) × (u : Token) × (s ≡ front ++ u ∷ [])) → (t ∷ s ≡ []) ⊎ ((front : List Token) × (u : Token) × (t ∷ s ≡ front ++ u ∷ []))
+last_of : (t : Token) (s : List Token) → (s ≡ []) ⊎ ((front : List Token) × (u : Token) × (s ≡ front ++ u ∷ []))
+    → (t ∷ s ≡ []) ⊎ ((front : List Token) × (u : Token) × (t ∷ s ≡ front ++ u ∷ []))
 last_of t s (inl e) = inr ([], t, ap (λ v. t ∷ v) e)
 last_of t s (inr (front, u, e)) = inr (t ∷ front, u, ap (λ v. t ∷ v) e)
 
@@ -43,23 +42,29 @@ module _ (N T : ℕ) where
   place_of q t (stopped w) op f e = absurd (none_is_some op e)
 
   step_place : (q : State) (t : Token) (op : Op) → number_place (step N T q t) ≡ Some op → t ≡ Compare op
-  step_place (want d ls o a n) t op e = place_of (want d ls o a n) t (step N T (want d ls o a n) t) op (follows N T (want d ls o a n) t tt) e
-  step_place (have d ls o a f) t op e = place_of (have d ls o a f) t (step N T (have d ls o a f) t) op (follows N T (have d ls o a f) t tt) e
-  step_place (more p d ls o a n) t op e = place_of (more p d ls o a n) t (step N T (more p d ls o a n) t) op (follows N T (more p d ls o a n) t tt) e
+  step_place (want d ls o a n) t op e =
+      place_of (want d ls o a n) t (step N T (want d ls o a n) t) op (follows N T (want d ls o a n) t tt) e
+  step_place (have d ls o a f) t op e =
+      place_of (have d ls o a f) t (step N T (have d ls o a f) t) op (follows N T (have d ls o a f) t tt) e
+  step_place (more p d ls o a n) t op e =
+      place_of (more p d ls o a n) t (step N T (more p d ls o a n) t) op (follows N T (more p d ls o a n) t tt) e
   step_place (stopped w) t op e = absurd (none_is_some op e)
 
-  after_op_of : (d : ℕ) (s : List Token) (op : Op) → (s ≡ []) ⊎ ((front : List Token) × (t : Token) × (s ≡ front ++ t ∷ [])) → number_place (run N T (start d) s) ≡ Some op →
+  after_op_of : (d : ℕ) (s : List Token) (op : Op) → (s ≡ []) ⊎ ((front : List Token) × (t : Token) × (s ≡ front ++ t ∷ []))
+      → number_place (run N T (start d) s) ≡ Some op →
       (earlier : List Token) × (s ≡ earlier ++ Compare op ∷ [])
   after_op_of d s op (inl h) e = absurd (none_is_some op (sym (ap (λ v. number_place (run N T (start d) v)) h) ∙ e))
   after_op_of d s op (inr (front, t, h)) e =
       let i : number_place (step N T (run N T (start d) front) t) ≡ Some op =
-        sym (ap number_place (run-one N T (start d) front t)) ∙ sym (ap (λ v. number_place (run N T (start d) v)) h) ∙ e in
+      sym (ap number_place (run-one N T (start d) front t)) ∙ sym (ap (λ v. number_place (run N T (start d) v)) h) ∙ e in
       (front, h ∙ ap (λ v. front ++ v ∷ []) (step_place (run N T (start d) front) t op i))
 
-  after_op : (d : ℕ) (s : List Token) (op : Op) → number_place (run N T (start d) s) ≡ Some op → (earlier : List Token) × (s ≡ earlier ++ Compare op ∷ [])
+  after_op : (d : ℕ) (s : List Token) (op : Op) → number_place (run N T (start d) s) ≡ Some op
+      → (earlier : List Token) × (s ≡ earlier ++ Compare op ∷ [])
   after_op d s op e = after_op_of d s op (last s) e
 
-  named_passes : (b : Bool) (d : ℕ) (ls : List Layer) (o a : Option Tree) (n j : ℕ) → (b ≡ true → j < N) → IsGoing (named b d ls o a n j) → j < N
+  named_passes : (b : Bool) (d : ℕ) (ls : List Layer) (o a : Option Tree) (n j : ℕ) → (b ≡ true → j < N) → IsGoing (named b d ls o a n j)
+      → j < N
   named_passes true d ls o a n j h g = h refl
   named_passes false d ls o a n j h g = absurd g
 
@@ -67,13 +72,17 @@ module _ (N T : ℕ) where
   name_passes : (q : State) (j : ℕ) → IsGoing (step N T q (Name j)) → j < N
   name_passes (want d ls o a n) j g = named_passes (nat_lt j N) d ls o a n j (ltb-true j N) g
   name_passes (have d ls o a f) j g = absurd g
-  name_passes (more (p_path op q) d ls o a n) j g = named_passes (nat_lt j N) d (layer (until_left op q) o a n ∷ ls) None None 0 j (ltb-true j N) g
-  name_passes (more (u_start op q f) d ls o a n) j g = named_passes (nat_lt j N) d (layer (until_right op q f Unbounded) o a n ∷ ls) None None 0 j (ltb-true j N) g
-  name_passes (more (u_again op q f) d ls o a n) j g = named_passes (nat_lt j N) d (layer (until_right op q f Unbounded) o a n ∷ ls) None None 0 j (ltb-true j N) g
+  name_passes (more (p_path op q) d ls o a n) j g =
+      named_passes (nat_lt j N) d (layer (until_left op q) o a n ∷ ls) None None 0 j (ltb-true j N) g
+  name_passes (more (u_start op q f) d ls o a n) j g =
+      named_passes (nat_lt j N) d (layer (until_right op q f Unbounded) o a n ∷ ls) None None 0 j (ltb-true j N) g
+  name_passes (more (u_again op q f) d ls o a n) j g =
+      named_passes (nat_lt j N) d (layer (until_right op q f Unbounded) o a n ∷ ls) None None 0 j (ltb-true j N) g
   name_passes (more p d ls o a n) j g = absurd g
   name_passes (stopped w) j g = absurd g
 
-  judged_passes : (b : Bool) (op : Op) (v : DecimalNumber) (d : ℕ) (ls : List Layer) (o a : Option Tree) (n : ℕ) → (b ≡ true → IsUpTo T v) → IsGoing (judged b op v d ls o a n) → IsUpTo T v
+  judged_passes : (b : Bool) (op : Op) (v : DecimalNumber) (d : ℕ) (ls : List Layer) (o a : Option Tree) (n : ℕ) → (b ≡ true → IsUpTo T v)
+      → IsGoing (judged b op v d ls o a n) → IsUpTo T v
   judged_passes true op v d ls o a n h g = h refl
   judged_passes false op v d ls o a n h g = absurd g
 
@@ -81,7 +90,8 @@ module _ (N T : ℕ) where
   number_passes : (q : State) (op : Op) (v : DecimalNumber) → number_place q ≡ Some op → IsGoing (step N T q (Number v)) → IsUpTo T v
   number_passes (want d ls o a n) op v e g = absurd g
   number_passes (have d ls o a f) op v e g = absurd g
-  number_passes (more (p_number c) d ls o a n) op v e g = judged_passes (nat_le v.c (T * 10 ^ v.x)) c v d ls o a n (leb-true v.c (T * 10 ^ v.x)) g
+  number_passes (more (p_number c) d ls o a n) op v e g =
+      judged_passes (nat_le v.c (T * 10 ^ v.x)) c v d ls o a n (leb-true v.c (T * 10 ^ v.x)) g
   number_passes (more p d ls o a n) op v e g = absurd (none_is_some op e)
   number_passes (stopped w) op v e g = absurd g
 
@@ -100,7 +110,9 @@ module _ (N : ℕ) (s : List Token) (t : Token) where
   TokenFails what.Number = ⊥
   TokenFails what.Expected = ¬ Begins (s ++ t ∷ [])
   TokenFails what.UnknownLabel = (j : ℕ) × (t ≡ Name j) × Begins (s ++ t ∷ []) × (N ≤ j)
-  TokenFails what.Threshold = (op : Op) × (earlier : List Token) × (v : DecimalNumber) × (s ≡ earlier ++ Compare op ∷ []) × (t ≡ Number v) × Begins (s ++ t ∷ []) × (¬ IsUpTo 1 v)
+  TokenFails what.Threshold =
+      (op : Op) × (earlier : List Token) × (v : DecimalNumber) × (s ≡ earlier ++ Compare op ∷ []) × (t ≡ Number v) × Begins (s ++ t ∷ [])
+      × (¬ IsUpTo 1 v)
   TokenFails what.Depth = IsEnclosing t × Begins (s ++ t ∷ []) × (¬ BeginsWithin (limits N 1 MOST_NESTED) (s ++ t ∷ []))
   TokenFails what.Length = ⊥
 
@@ -137,11 +149,13 @@ module _ (N : ℕ) (s : List Token) (t : Token) where
 
   op_place : (op : Op) (earlier : List Token) → s ≡ earlier ++ Compare op ∷ [] → IsGoing state → number_place state ≡ Some op
   op_place op earlier e g =
-      let i : state ≡ step N 1 (run N 1 (start MOST_NESTED) earlier) (Compare op) = ap (run N 1 (start MOST_NESTED)) e ∙ run-one N 1 (start MOST_NESTED) earlier (Compare op) in
+      let i : state ≡ step N 1 (run N 1 (start MOST_NESTED) earlier) (Compare op) =
+      ap (run N 1 (start MOST_NESTED)) e ∙ run-one N 1 (start MOST_NESTED) earlier (Compare op) in
       ap number_place i ∙ op_passes N 1 (run N 1 (start MOST_NESTED) earlier) op (subst IsGoing i g)
 
   -- a token that fails doesn't pass
-  pub not_passing : (w : FormulaWhat) → BeginsWithin (limits N 1 MOST_NESTED) s → TokenFails N s t w → ¬ BeginsWithin (limits N 1 MOST_NESTED) (s ++ t ∷ [])
+  pub not_passing : (w : FormulaWhat) → BeginsWithin (limits N 1 MOST_NESTED) s → TokenFails N s t w
+      → ¬ BeginsWithin (limits N 1 MOST_NESTED) (s ++ t ∷ [])
   not_passing what.Token p f b = f
   not_passing what.Number p f b = f
   not_passing what.Expected p f b = f (begins_so b)
@@ -149,7 +163,8 @@ module _ (N : ℕ) (s : List Token) (t : Token) where
       let k : j < N = name_passes N 1 state j (subst (λ v. IsGoing (step N 1 state v)) e (going_after b)) in
       omega (arith, h, k)
   not_passing what.Threshold p (op, earlier, v, e, k, i, h) b =
-      h (number_passes N 1 state op v (op_place op earlier e (goes N 1 MOST_NESTED s p)) (subst (λ v. IsGoing (step N 1 state v)) k (going_after b)))
+      h (number_passes N 1 state op v (op_place op earlier e (goes N 1 MOST_NESTED s p))
+      (subst (λ v. IsGoing (step N 1 state v)) k (going_after b)))
   not_passing what.Depth p (e, i, n) b = n b
   not_passing what.Length p f b = f
 

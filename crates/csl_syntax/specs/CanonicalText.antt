@@ -32,7 +32,8 @@ bound_text (Reward r) = codes "U[0,~][0," ++ canonical_text r ++ codes "]"
 abbrev pub probability_text : Op → DecimalNumber → List ℕ → List ℕ
 probability_text op threshold path = codes "P{" ++ op_text op ++ canonical_text threshold ++ codes "}[" ++ path ++ codes "]"
 
--- the text of a formula over these labels: no space but round `&&`, `||` and `U` and behind `X`, parentheses only where they are needed, and
+-- the text of a formula over these labels: no space but round `&&`, `||` and `U` and behind `X`, parentheses only where they are needed,
+-- and
 -- numbers as they are printed
 abbrev pub formula_text : List (List ℕ) → Tree → List ℕ
 formula_text labels truth = codes "tt"

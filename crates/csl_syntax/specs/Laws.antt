@@ -15,13 +15,15 @@ OneFormula = (line : List ℕ) (labels : List (List ℕ)) (f g : Tree) → Formu
 -- a line has one fault at most, in one column
 abbrev pub OneFormulaFault : Type 0
 OneFormulaFault =
-    (line : List ℕ) (labels : List (List ℕ)) (k l : ℕ) (v w : FormulaWhat) → FormulaFaultAt line labels k v → FormulaFaultAt line labels l w
+    (line : List ℕ) (labels : List (List ℕ)) (k l : ℕ) (v w : FormulaWhat) → FormulaFaultAt line labels k v
+    → FormulaFaultAt line labels l w
     → (k ≡ l) × (v ≡ w)
 
 -- a line that stands for a formula has no fault
 abbrev pub FormulaHasNoFault : Type 0
 FormulaHasNoFault =
-    (line : List ℕ) (labels : List (List ℕ)) (f : Tree) (k : ℕ) (v : FormulaWhat) → FormulaSays line labels f → ¬ FormulaFaultAt line labels k v
+    (line : List ℕ) (labels : List (List ℕ)) (f : Tree) (k : ℕ) (v : FormulaWhat) → FormulaSays line labels f
+    → ¬ FormulaFaultAt line labels k v
 
 abbrev pub SaysSomeFormula : List ℕ → List (List ℕ) → Type 0
 SaysSomeFormula line labels = (f : Tree) × FormulaSays line labels f

@@ -9,5 +9,7 @@ pub mod Laws
 -- what the parser's own functions say
 pub mod Scanner
 pub mod Machine
+pub mod View
+pub mod Parsing
 -- what the printer's own functions say
 pub mod Printer

@@ -1,11 +1,14 @@
--- How the tokens are read, one after another: a state after each, with the formulas read so far. It serves the proofs; nothing of it is in what
+-- How the tokens are read, one after another: a state after each, with the formulas read so far. It serves the proofs; nothing of it is
+-- in what
 -- a reader must believe.
-use Rattle.std.specs.Prelude.{◌≡◌, ℕ, zero, suc, ◌*◌, ◌^◌, Bool, true, false, nat_lt, nat_le, List, [], ◌∷◌, Option, Some, None}
+use Rattle.std.specs.Prelude.{ℕ, zero, suc, ◌*◌, ◌^◌, Bool, true, false, nat_lt, nat_le, List, [], ◌∷◌, Option, Some, None}
 use Rattle.decimal_text.specs.DecimalNumber.{DecimalNumber}
 use Rattle.csl_syntax.specs.declared.fault.FormulaWhat.{FormulaWhat}
 use Rattle.csl_syntax.specs.declared.fault.FormulaWhat.TheVariants as what
 use Rattle.csl_syntax.specs.declared.token.Token.{Token}
-use Rattle.csl_syntax.specs.declared.token.Token.TheVariants.{Truth, Falsehood, Name, ProbabilityWord, NextWord, UntilWord, ReservedWord, Bang, AndAnd, OrOr, OpenParen, CloseParen, OpenBrace, CloseBrace, OpenBracket, CloseBracket, Comma, Tilde, Compare, Number}
+use Rattle.csl_syntax.specs.declared.token.Token.TheVariants.{Truth, Falsehood, Name, ProbabilityWord, NextWord, UntilWord, ReservedWord}
+use Rattle.csl_syntax.specs.declared.token.Token.TheVariants.{Bang, AndAnd, OrOr, OpenParen, CloseParen, OpenBrace, CloseBrace}
+use Rattle.csl_syntax.specs.declared.token.Token.TheVariants.{OpenBracket, CloseBracket, Comma, Tilde, Compare, Number}
 use Rattle.csl_syntax.specs.declared.formula.Op.{Op}
 use Rattle.csl_syntax.specs.declared.formula.Bound.{Bound}
 use Rattle.csl_syntax.specs.declared.formula.Bound.TheVariants.{Unbounded, Time, Reward}

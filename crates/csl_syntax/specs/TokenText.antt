@@ -1,5 +1,6 @@
 -- The texts of tokens: words, numbers and symbols. At its place a token is the longest text that fits.
-use Rattle.std.specs.Prelude.{◌≡◌, ℕ, ◌<◌, ◌≤◌, ◌⊎◌, Bool, false, ◌&&◌, ◌||◌, ◌==◌, IsTrue, Option, List, [], ◌∷◌, ◌++◌, length, codes, bytes_eq}
+use Rattle.std.specs.Prelude.{◌≡◌, ℕ, ◌<◌, ◌≤◌, ◌⊎◌, Bool, false, ◌&&◌, ◌||◌, ◌==◌, IsTrue, Option, List, [], ◌∷◌, ◌++◌, length, codes}
+use Rattle.std.specs.Prelude.{bytes_eq}
 use Rattle.std.specs.Char.{is_ascii_digit}
 use Rattle.std.specs.List.{list_all, list_any}
 use Rattle.decimal_text.specs.Spelling.{ExponentSpelling, exponent_text, IsExponent}

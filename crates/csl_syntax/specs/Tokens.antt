@@ -9,7 +9,9 @@ use Rattle.csl_syntax.specs.TokenText.{IsTokenBefore}
 use Rattle.csl_syntax.specs.declared.formula.Op.{Op}
 use Rattle.csl_syntax.specs.declared.formula.Op.TheVariants.{Less, AtMost, More, AtLeast}
 use Rattle.csl_syntax.specs.declared.token.Token.{Token}
-use Rattle.csl_syntax.specs.declared.token.Token.TheVariants.{Truth, Falsehood, Name, ProbabilityWord, NextWord, UntilWord, ReservedWord, Bang, AndAnd, OrOr, OpenParen, CloseParen, OpenBrace, CloseBrace, OpenBracket, CloseBracket, Comma, Tilde, Compare, Number}
+use Rattle.csl_syntax.specs.declared.token.Token.TheVariants.{Truth, Falsehood, Name, ProbabilityWord, NextWord, UntilWord, ReservedWord}
+use Rattle.csl_syntax.specs.declared.token.Token.TheVariants.{Bang, AndAnd, OrOr, OpenParen, CloseParen, OpenBrace, CloseBrace}
+use Rattle.csl_syntax.specs.declared.token.Token.TheVariants.{OpenBracket, CloseBracket, Comma, Tilde, Compare, Number}
 
 -- the place of a name among the labels, or their number where it is none of them
 abbrev pub label_number : List (List ℕ) → List ℕ → ℕ
@@ -56,5 +58,6 @@ pub data HasTokens (labels : List (List ℕ)) : List ℕ → List Token → List
   no_more : {rest : List ℕ} → HasTokens labels rest [] rest
   skip : {bytes more rest : List ℕ} {b : ℕ} {ts : List Token} → bytes ≡ b ∷ more → IsTrue (is_blank b) → HasTokens labels more ts rest
       → HasTokens labels bytes ts rest
-  take_token : {bytes more rest : List ℕ} {t : Token} {ts : List Token} → BeginsWithToken labels bytes t more → HasTokens labels more ts rest
+  take_token : {bytes more rest : List ℕ} {t : Token} {ts : List Token} → BeginsWithToken labels bytes t more
+      → HasTokens labels more ts rest
       → HasTokens labels bytes (t ∷ ts) rest

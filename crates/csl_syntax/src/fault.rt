@@ -1,4 +1,5 @@
 // What can be wrong with a formula's line.
+use std::alloc::AllocError;
 
 /// What is wrong with a line that is no formula.
 #[derive(Clone, Copy, Debug, PartialEq, Eq)]
@@ -31,4 +32,15 @@ pub struct FormulaFault {
 pub enum ParseFault {
     At(FormulaFault),
     Memory,
+}
+
+impl From<AllocError> for ParseFault {
+    ghost use Rattle.std.specs.Prelude.{◌≡◌};
+    ghost use Rattle.csl_syntax.specs.declared.fault.ParseFault.TheVariants.{Memory};
+
+    ghost from_gives = { λ _ fault. fault ≡ Memory };
+
+    fn from(_: AllocError) -> Self {
+        ParseFault::Memory
+    }
 }
