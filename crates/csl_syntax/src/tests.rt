@@ -11,6 +11,7 @@ mod drawn_lines;
 mod faults;
 mod formulas;
 mod lengths;
+mod texts;
 
 // The words as names of labels.
 fn labels_of(alloc: Global, words: &[&[u8]]) -> Result<Vec<Name>, AllocError> {

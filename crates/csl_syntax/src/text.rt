@@ -12,9 +12,6 @@ use decimal_text::Decimal;
 use std::alloc::{AllocError, Global};
 use text_lines::Name;
 
-#[cfg(test)]
-mod tests;
-
 // A piece of the text that isn't written yet.
 #[derive(Clone, Copy)]
 enum Piece<'a> {

@@ -1,10 +1,13 @@
 // Lines that were drawn, against what a reader and a printer in Python say of them.
+ghost use Rattle.std.specs.Prelude.{◌<◌, ◌^◌, length};
+
 use super::drawn_lines::{LABELS, LINES};
 use super::*;
-use crate::print;
 
 // What is said of a line: the canonical text of its formula, or the column and the kind of its fault.
-fn said_of(alloc: Global, line: &[u8], labels: &[Name]) -> Result<Vec<u8>, Fail> {
+fn said_of(alloc: Global, line: &[u8], labels: &[Name]) -> Result<Vec<u8>, Fail>
+    requires { length labels.now < 2 ^ 32 }
+{
     let formula = match parse(alloc, line, labels) {
         Err(ParseFault::At(fault)) => {
             let said = format!(in alloc; "{} {:?}", fault.column, fault.what)?;
@@ -12,6 +15,7 @@ fn said_of(alloc: Global, line: &[u8], labels: &[Name]) -> Result<Vec<u8>, Fail>
         }
         read => read?,
     };
+    formulas_are_over_labels();
     Ok(print(alloc, &formula, labels)?)
 }
 
@@ -25,7 +29,8 @@ fn drawn_lines_are_read_and_printed(rt: HostRuntime) -> Result<(), Fail> {
         line = match line {
             None => Some(next),
             Some(drawn) => {
-                assert_eq!(rt; said_of(alloc, drawn, &labels)?, next, "{drawn:?}");
+                let said = said_of(alloc, drawn, &labels)?;
+                assert_eq!(rt; said.as_slice(), next, "{drawn:?}");
                 None
             }
         };
