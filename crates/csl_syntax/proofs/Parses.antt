@@ -2,6 +2,8 @@
 use Rattle.std.proofs.Common.{◌≡◌, ℕ, suc, ◌+◌, ◌<◌, ◌≤◌, ◌⊎◌, inl, inr, true, Option, None, List, [], ◌∷◌, ◌++◌, length, refl, sym, ◌∙◌}
 use Rattle.std.proofs.Common.{ap, subst, arith, length-append}
 use Rattle.std.specs.Prelude.{slice_index_or, Result, Ok, Err, MatchResult}
+use Rattle.std.specs.Prelude.{Box}
+use Rattle.std.specs.declared.alloc.Global.{Global}
 use Rattle.text_lines.specs.Words.{is_blank}
 use Rattle.csl_syntax.specs.declared.fault.FormulaFault.{FormulaFault}
 use Rattle.csl_syntax.specs.declared.fault.FormulaWhat.{FormulaWhat}
@@ -150,11 +152,11 @@ none_of : (ls : List Layer) (g : Tree) → 0 < length ls → whole_of ls g ≡ N
 none_of [] g h = absurd (nothing_below h)
 none_of (l ∷ ls) g h = refl
 
-pub not_whole : (m : Machine) (f : Formula) → m.place ≡ After f → 0 < length m.context.outer.items → whole (state_of m) ≡ None
+pub not_whole : (m : Machine) (f : Box Formula Global) → m.place ≡ After f → 0 < length m.context.outer.items → whole (state_of m) ≡ None
 not_whole m f e h =
     ap (λ p. whole (in_context m.context (state_at p))) e
     ∙ none_of (outer_from [] m.context.outer.items)
-    (with_either (tree_in m.context.either) (with_both (tree_in m.context.both) (tree_of f)))
+    (with_either (tree_in m.context.either) (with_both (tree_in m.context.both) (tree_of f.value)))
     (omega (arith, length_outer [] m.context.outer.items, h))
 
 -- the answer is exact

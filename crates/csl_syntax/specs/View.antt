@@ -1,5 +1,6 @@
 -- The state of the machine that a value of the code stands for.
-use Rattle.std.specs.Prelude.{◌≡◌, ℕ, suc, ◌+◌, List, [], ◌∷◌, Option, Some, None, Result, Ok, Err, ⊤}
+use Rattle.std.specs.Prelude.{◌≡◌, ℕ, suc, ◌+◌, List, [], ◌∷◌, Option, Some, None, Result, Ok, Err, Box, ⊤}
+use Rattle.std.specs.declared.alloc.Global.{Global}
 use Rattle.csl_syntax.specs.declared.formula.Formula.{Formula}
 use Rattle.csl_syntax.specs.declared.limits.TheConstants.{MOST_NESTED}
 use Rattle.csl_syntax.specs.declared.machine.Context.{Context}
@@ -21,15 +22,15 @@ use Rattle.csl_syntax.specs.Machine.{Layer, Kind, parens, of_next, until_left, u
 use Rattle.csl_syntax.specs.Machine.{p_bracket, p_path, u_start, u_zero, u_comma, u_limit, u_close, u_any, u_again, v_zero, v_comma}
 use Rattle.csl_syntax.specs.Machine.{v_limit, v_close, layer, begin, in_more, State, want, have, more, stopped}
 
-abbrev pub tree_in : Option Formula → Option Tree
+abbrev pub tree_in : Option (Box Formula Global) → Option Tree
 tree_in None = None
-tree_in (Some f) = Some (tree_of f)
+tree_in (Some f) = Some (tree_of f.value)
 
 abbrev pub kind_of : KindOf → Kind
 kind_of kinds.Parens = parens
 kind_of (kinds.OfNext op q) = of_next op q
 kind_of (kinds.UntilLeft op q) = until_left op q
-kind_of (kinds.UntilRight op q f b) = until_right op q (tree_of f) b
+kind_of (kinds.UntilRight op q f b) = until_right op q (tree_of f.value) b
 
 abbrev pub phase_of : PhaseOf → Phase
 phase_of phases.Brace = p_brace
@@ -38,17 +39,17 @@ phase_of (phases.Threshold op) = p_number op
 phase_of (phases.Close op q) = p_close op q
 phase_of (phases.Bracket op q) = p_bracket op q
 phase_of (phases.Path op q) = p_path op q
-phase_of (phases.Start op q f) = u_start op q (tree_of f)
-phase_of (phases.Zero op q f) = u_zero op q (tree_of f)
-phase_of (phases.Comma op q f) = u_comma op q (tree_of f)
-phase_of (phases.Limit op q f) = u_limit op q (tree_of f)
-phase_of (phases.End op q f t) = u_close op q (tree_of f) t
-phase_of (phases.Any op q f) = u_any op q (tree_of f)
-phase_of (phases.Again op q f) = u_again op q (tree_of f)
-phase_of (phases.RewardZero op q f) = v_zero op q (tree_of f)
-phase_of (phases.RewardComma op q f) = v_comma op q (tree_of f)
-phase_of (phases.RewardLimit op q f) = v_limit op q (tree_of f)
-phase_of (phases.RewardEnd op q f t) = v_close op q (tree_of f) t
+phase_of (phases.Start op q f) = u_start op q (tree_of f.value)
+phase_of (phases.Zero op q f) = u_zero op q (tree_of f.value)
+phase_of (phases.Comma op q f) = u_comma op q (tree_of f.value)
+phase_of (phases.Limit op q f) = u_limit op q (tree_of f.value)
+phase_of (phases.End op q f t) = u_close op q (tree_of f.value) t
+phase_of (phases.Any op q f) = u_any op q (tree_of f.value)
+phase_of (phases.Again op q f) = u_again op q (tree_of f.value)
+phase_of (phases.RewardZero op q f) = v_zero op q (tree_of f.value)
+phase_of (phases.RewardComma op q f) = v_comma op q (tree_of f.value)
+phase_of (phases.RewardLimit op q f) = v_limit op q (tree_of f.value)
+phase_of (phases.RewardEnd op q f t) = v_close op q (tree_of f.value) t
 
 abbrev pub layer_of : Pending → Layer
 layer_of x = record { kind = kind_of x.kind; either = tree_in x.either; both = tree_in x.both; bangs = x.bangs }
@@ -63,7 +64,7 @@ in_context x act = act x.room (outer_from [] x.outer.items) (tree_in x.either) (
 
 abbrev pub state_at : Place → ℕ → List Layer → Option Tree → Option Tree → State
 state_at (Before n) d ls o a = want d ls o a n
-state_at (After f) d ls o a = have d ls o a (tree_of f)
+state_at (After f) d ls o a = have d ls o a (tree_of f.value)
 state_at (Within p n) d ls o a = more (phase_of p) d ls o a n
 
 abbrev pub state_of : Machine → State

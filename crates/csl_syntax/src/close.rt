@@ -52,10 +52,10 @@ pub fn close_paren(
     alloc: Global,
     room: u32,
     outer: Vec<Pending>,
-    formula: Formula,
+    formula: Box<Formula>,
 ) -> Result<Machine, Stop>
     requires { room + nested outer.items ≡ MOST_NESTED }
-    ensures gives { Goes result (closed room (outer_from [] outer.items) (tree_of formula)) }
+    ensures gives { Goes result (closed room (outer_from [] outer.items) (tree_of formula.value)) }
     ensures counted { IfOk result IsCounted }
 {
     let Some(innermost) = pop_innermost(room, outer) else {
@@ -79,10 +79,10 @@ pub fn close_bracket(
     alloc: Global,
     room: u32,
     outer: Vec<Pending>,
-    formula: Formula,
+    formula: Box<Formula>,
 ) -> Result<Machine, Stop>
     requires { room + nested outer.items ≡ MOST_NESTED }
-    ensures gives { Goes result (boxed room (outer_from [] outer.items) (tree_of formula)) }
+    ensures gives { Goes result (boxed room (outer_from [] outer.items) (tree_of formula.value)) }
     ensures counted { IfOk result IsCounted }
 {
     let Some(innermost) = pop_innermost(room, outer) else {
@@ -108,9 +108,9 @@ pub fn close_bracket(
 }
 
 // `U` comes.
-pub fn until_word(room: u32, outer: Vec<Pending>, formula: Formula) -> Result<Machine, Stop>
+pub fn until_word(room: u32, outer: Vec<Pending>, formula: Box<Formula>) -> Result<Machine, Stop>
     requires { room + nested outer.items ≡ MOST_NESTED }
-    ensures gives { Goes result (turned room (outer_from [] outer.items) (tree_of formula)) }
+    ensures gives { Goes result (turned room (outer_from [] outer.items) (tree_of formula.value)) }
     ensures counted { IfOk result IsCounted }
 {
     let Some(innermost) = pop_innermost(room, outer) else {

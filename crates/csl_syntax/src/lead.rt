@@ -120,8 +120,8 @@ fn path(op: Op, number: Decimal, token: Token) -> Lead
     }
 }
 
-fn start(op: Op, number: Decimal, left: Formula, token: Token) -> Lead
-    ensures { Leads result (u_start op number (tree_of left)) token }
+fn start(op: Op, number: Decimal, left: Box<Formula>, token: Token) -> Lead
+    ensures { Leads result (u_start op number (tree_of left.value)) token }
 {
     match token {
         Token::OpenBracket => Lead::To(Phase::Zero(op, number, left)),
@@ -129,8 +129,8 @@ fn start(op: Op, number: Decimal, left: Formula, token: Token) -> Lead
     }
 }
 
-fn zero(op: Op, number: Decimal, left: Formula, token: Token) -> Lead
-    ensures { Leads result (u_zero op number (tree_of left)) token }
+fn zero(op: Op, number: Decimal, left: Box<Formula>, token: Token) -> Lead
+    ensures { Leads result (u_zero op number (tree_of left.value)) token }
 {
     match token {
         Token::Number(first) => {
@@ -144,8 +144,8 @@ fn zero(op: Op, number: Decimal, left: Formula, token: Token) -> Lead
     }
 }
 
-fn comma(op: Op, number: Decimal, left: Formula, token: Token) -> Lead
-    ensures { Leads result (u_comma op number (tree_of left)) token }
+fn comma(op: Op, number: Decimal, left: Box<Formula>, token: Token) -> Lead
+    ensures { Leads result (u_comma op number (tree_of left.value)) token }
 {
     match token {
         Token::Comma => Lead::To(Phase::Limit(op, number, left)),
@@ -153,8 +153,8 @@ fn comma(op: Op, number: Decimal, left: Formula, token: Token) -> Lead
     }
 }
 
-fn limit(op: Op, number: Decimal, left: Formula, token: Token) -> Lead
-    ensures { Leads result (u_limit op number (tree_of left)) token }
+fn limit(op: Op, number: Decimal, left: Box<Formula>, token: Token) -> Lead
+    ensures { Leads result (u_limit op number (tree_of left.value)) token }
 {
     match token {
         Token::Number(limit) => Lead::To(Phase::End(op, number, left, limit)),
@@ -163,8 +163,8 @@ fn limit(op: Op, number: Decimal, left: Formula, token: Token) -> Lead
     }
 }
 
-fn end(op: Op, number: Decimal, left: Formula, limit: Decimal, token: Token) -> Lead
-    ensures { Leads result (u_close op number (tree_of left) limit) token }
+fn end(op: Op, number: Decimal, left: Box<Formula>, limit: Decimal, token: Token) -> Lead
+    ensures { Leads result (u_close op number (tree_of left.value) limit) token }
 {
     match token {
         Token::CloseBracket => {
@@ -174,8 +174,8 @@ fn end(op: Op, number: Decimal, left: Formula, limit: Decimal, token: Token) -> 
     }
 }
 
-fn any(op: Op, number: Decimal, left: Formula, token: Token) -> Lead
-    ensures { Leads result (u_any op number (tree_of left)) token }
+fn any(op: Op, number: Decimal, left: Box<Formula>, token: Token) -> Lead
+    ensures { Leads result (u_any op number (tree_of left.value)) token }
 {
     match token {
         Token::CloseBracket => Lead::To(Phase::Again(op, number, left)),
@@ -183,8 +183,8 @@ fn any(op: Op, number: Decimal, left: Formula, token: Token) -> Lead
     }
 }
 
-fn again(op: Op, number: Decimal, left: Formula, token: Token) -> Lead
-    ensures { Leads result (u_again op number (tree_of left)) token }
+fn again(op: Op, number: Decimal, left: Box<Formula>, token: Token) -> Lead
+    ensures { Leads result (u_again op number (tree_of left.value)) token }
 {
     match token {
         Token::OpenBracket => Lead::To(Phase::RewardZero(op, number, left)),
@@ -192,8 +192,8 @@ fn again(op: Op, number: Decimal, left: Formula, token: Token) -> Lead
     }
 }
 
-fn reward_zero(op: Op, number: Decimal, left: Formula, token: Token) -> Lead
-    ensures { Leads result (v_zero op number (tree_of left)) token }
+fn reward_zero(op: Op, number: Decimal, left: Box<Formula>, token: Token) -> Lead
+    ensures { Leads result (v_zero op number (tree_of left.value)) token }
 {
     match token {
         Token::Number(first) => {
@@ -207,8 +207,8 @@ fn reward_zero(op: Op, number: Decimal, left: Formula, token: Token) -> Lead
     }
 }
 
-fn reward_comma(op: Op, number: Decimal, left: Formula, token: Token) -> Lead
-    ensures { Leads result (v_comma op number (tree_of left)) token }
+fn reward_comma(op: Op, number: Decimal, left: Box<Formula>, token: Token) -> Lead
+    ensures { Leads result (v_comma op number (tree_of left.value)) token }
 {
     match token {
         Token::Comma => Lead::To(Phase::RewardLimit(op, number, left)),
@@ -216,8 +216,8 @@ fn reward_comma(op: Op, number: Decimal, left: Formula, token: Token) -> Lead
     }
 }
 
-fn reward_limit(op: Op, number: Decimal, left: Formula, token: Token) -> Lead
-    ensures { Leads result (v_limit op number (tree_of left)) token }
+fn reward_limit(op: Op, number: Decimal, left: Box<Formula>, token: Token) -> Lead
+    ensures { Leads result (v_limit op number (tree_of left.value)) token }
 {
     match token {
         Token::Number(limit) => Lead::To(Phase::RewardEnd(op, number, left, limit)),
@@ -225,8 +225,8 @@ fn reward_limit(op: Op, number: Decimal, left: Formula, token: Token) -> Lead
     }
 }
 
-fn reward_end(op: Op, number: Decimal, left: Formula, limit: Decimal, token: Token) -> Lead
-    ensures { Leads result (v_close op number (tree_of left) limit) token }
+fn reward_end(op: Op, number: Decimal, left: Box<Formula>, limit: Decimal, token: Token) -> Lead
+    ensures { Leads result (v_close op number (tree_of left.value) limit) token }
 {
     match token {
         Token::CloseBracket => {

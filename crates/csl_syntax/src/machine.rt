@@ -10,7 +10,7 @@ pub enum Kind {
     Parens,
     OfNext(Op, Decimal),
     UntilLeft(Op, Decimal),
-    UntilRight(Op, Decimal, Formula, Bound),
+    UntilRight(Op, Decimal, Box<Formula>, Bound),
 }
 
 // What has come of the fixed parts of a probability operator.
@@ -22,17 +22,17 @@ pub enum Phase {
     Close(Op, Decimal),
     Bracket(Op, Decimal),
     Path(Op, Decimal),
-    Start(Op, Decimal, Formula),
-    Zero(Op, Decimal, Formula),
-    Comma(Op, Decimal, Formula),
-    Limit(Op, Decimal, Formula),
-    End(Op, Decimal, Formula, Decimal),
-    Any(Op, Decimal, Formula),
-    Again(Op, Decimal, Formula),
-    RewardZero(Op, Decimal, Formula),
-    RewardComma(Op, Decimal, Formula),
-    RewardLimit(Op, Decimal, Formula),
-    RewardEnd(Op, Decimal, Formula, Decimal),
+    Start(Op, Decimal, Box<Formula>),
+    Zero(Op, Decimal, Box<Formula>),
+    Comma(Op, Decimal, Box<Formula>),
+    Limit(Op, Decimal, Box<Formula>),
+    End(Op, Decimal, Box<Formula>, Decimal),
+    Any(Op, Decimal, Box<Formula>),
+    Again(Op, Decimal, Box<Formula>),
+    RewardZero(Op, Decimal, Box<Formula>),
+    RewardComma(Op, Decimal, Box<Formula>),
+    RewardLimit(Op, Decimal, Box<Formula>),
+    RewardEnd(Op, Decimal, Box<Formula>, Decimal),
 }
 
 // A formula that is not at its end, where another is read within it: what it is part of, its part before the last `||`,
@@ -40,8 +40,8 @@ pub enum Phase {
 #[derive(Drop)]
 pub struct Pending {
     pub kind: Kind,
-    pub either: Option<Formula>,
-    pub both: Option<Formula>,
+    pub either: Option<Box<Formula>>,
+    pub both: Option<Box<Formula>>,
     pub bangs: u32,
 }
 
@@ -51,7 +51,7 @@ pub enum Place {
     // An operand must come, after so many `!`.
     Before(u32),
     // An operand has come.
-    After(Formula),
+    After(Box<Formula>),
     // Within the fixed parts of a probability operator, before which stood so many `!`.
     Within(Phase, u32),
 }
@@ -62,8 +62,8 @@ pub enum Place {
 pub struct Context {
     pub room: u32,
     pub outer: Vec<Pending>,
-    pub either: Option<Formula>,
-    pub both: Option<Formula>,
+    pub either: Option<Box<Formula>>,
+    pub both: Option<Box<Formula>>,
 }
 
 // What was read, where a formula may go on.

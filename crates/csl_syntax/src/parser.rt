@@ -152,7 +152,7 @@ fn finish(alloc: Global, machine: Machine, line: &[u8]) -> Result<Formula, Parse
                 both,
             } = context;
             if outer.is_empty() {
-                Ok(joined(alloc, either, both, formula)?)
+                Ok(Box::into_inner(joined(alloc, either, both, formula)?))
             } else {
                 Err(ends_early(line))
             }

@@ -4,7 +4,7 @@ ghost use Rattle.csl_syntax.specs.Tree.{tree_of};
 ghost use Rattle.csl_syntax.specs.Machine.{step, operand, bang, opened, headed, want, more, layer, in_want, in_have, in_more, begin};
 ghost use Rattle.csl_syntax.specs.View.{in_context, state_of, kind_of, phase_of, IsFilled, IsCounted, Goes};
 
-use crate::build::{joined, negated, with_both};
+use crate::build::{boxed, joined, negated, with_both};
 use crate::close::{close_bracket, close_paren, until_word};
 use crate::fault::FormulaWhat;
 use crate::formula::Formula;
@@ -41,11 +41,11 @@ fn begun(
     ensures counted { IfOk result IsCounted }
 {
     match token {
-        Token::Truth => operand(alloc, context, bangs, Formula::Tt),
-        Token::Falsehood => operand(alloc, context, bangs, Formula::Ff),
+        Token::Truth => leaf(alloc, context, bangs, Formula::Tt),
+        Token::Falsehood => leaf(alloc, context, bangs, Formula::Ff),
         Token::Name(label) => {
             if label < labels {
-                operand(alloc, context, bangs, Formula::Label(label))
+                leaf(alloc, context, bangs, Formula::Label(label))
             } else {
                 Err(Stop::Fails(FormulaWhat::UnknownLabel))
             }
@@ -57,15 +57,24 @@ fn begun(
     }
 }
 
+// An operand of one token, after so many `!`.
+fn leaf(alloc: Global, context: Context, bangs: u32, formula: Formula) -> Result<Machine, Stop>
+    requires { IsFilled bangs context }
+    ensures gives { Goes result (in_context context (λ d ls o a. operand d ls o a bangs (tree_of formula))) }
+    ensures counted { IfOk result IsCounted }
+{
+    operand(alloc, context, bangs, boxed(alloc, formula)?)
+}
+
 // A whole operand, after so many `!`.
 pub fn operand(
     alloc: Global,
     context: Context,
     bangs: u32,
-    formula: Formula,
+    formula: Box<Formula>,
 ) -> Result<Machine, Stop>
     requires { IsFilled bangs context }
-    ensures gives { Goes result (in_context context (λ d ls o a. operand d ls o a bangs (tree_of formula))) }
+    ensures gives { Goes result (in_context context (λ d ls o a. operand d ls o a bangs (tree_of formula.value))) }
     ensures counted { IfOk result IsCounted }
 {
     let formula = negated(alloc, bangs, formula)?;
@@ -184,9 +193,14 @@ fn further(phase: Phase, context: Context, bangs: u32) -> Machine
 }
 
 // A token after an operand.
-fn after(alloc: Global, token: Token, context: Context, formula: Formula) -> Result<Machine, Stop>
+fn after(
+    alloc: Global,
+    token: Token,
+    context: Context,
+    formula: Box<Formula>,
+) -> Result<Machine, Stop>
     requires { IsFilled 0 context }
-    ensures gives { (labels : ℕ) → Goes result (in_context context (λ d ls o a. in_have labels 1 token d ls o a (tree_of formula))) }
+    ensures gives { (labels : ℕ) → Goes result (in_context context (λ d ls o a. in_have labels 1 token d ls o a (tree_of formula.value))) }
     ensures counted { IfOk result IsCounted }
 {
     let Context {

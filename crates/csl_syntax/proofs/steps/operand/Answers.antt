@@ -9,4 +9,4 @@ pub returns-clause-gives : goal.returns-clause-gives
 returns-clause-gives c =
     let x = c.args.context in
     ap (λ v. have (x.room + c.args.bangs) (outer_from [] x.outer.items) (tree_in x.either) (tree_in x.both) v) c.in_ok-formula.ensures
-    ∙ operand_is c.args.bangs x.room (outer_from [] x.outer.items) (tree_in x.either) (tree_in x.both) (tree_of c.args.formula)
+    ∙ operand_is c.args.bangs x.room (outer_from [] x.outer.items) (tree_in x.either) (tree_in x.both) (tree_of c.args.formula.value)
