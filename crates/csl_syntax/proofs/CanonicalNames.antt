@@ -23,7 +23,9 @@ module _ (labels : List (List ℕ)) (are : AreLabels labels) where
       let name = slice_index_or labels j [] in
       let within : j ≤ length labels = omega arith in
       position_or_len_is (λ label. bytes_eq label name) labels j [] within
-      (λ k l. false_from_ne_true (bytes_eq (slice_index_or labels k []) name) (λ e. are.distinct k j [] l h ((bytes_eq-Decides (slice_index_or labels k []) name).0 e)))
+      (λ k l.
+      false_from_ne_true (bytes_eq (slice_index_or labels k []) name)
+      (λ e. are.distinct k j [] l h ((bytes_eq-Decides (slice_index_or labels k []) name).0 e)))
       (λ l. (bytes_eq-Decides name name).1 refl)
 
   -- a label's name writes its number

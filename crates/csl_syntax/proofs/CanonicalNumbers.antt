@@ -1,5 +1,6 @@
 -- A decimal's text is the text of a number token.
-use Rattle.std.proofs.Common.{◌≡◌, ◌≢◌, ℕ, zero, suc, ◌/◌, ◌%◌, ◌^◌, ◌<◌, ◌⊎◌, inl, inr, true, false, None, List, [], ◌∷◌, ◌++◌, length, refl, sym, ◌∙◌, ap, subst, arith, append-nil}
+use Rattle.std.proofs.Common.{◌≡◌, ◌≢◌, ℕ, zero, suc, ◌/◌, ◌%◌, ◌^◌, ◌<◌, ◌⊎◌, inl, inr, true, false, None, List, [], ◌∷◌, ◌++◌, length}
+use Rattle.std.proofs.Common.{refl, sym, ◌∙◌, ap, subst, arith, append-nil}
 use Rattle.std.specs.Prelude.{codes}
 use Rattle.std.specs.Char.{is_ascii_digit}
 use Rattle.std.specs.Fmt.{decimal, digits}
@@ -28,16 +29,19 @@ pub record IsDigitsAndPoints (text : List ℕ) : Type 0 where
   pub digit : is_ascii_digit first ≡ true
   pub run : list_all is_digit_or_point text ≡ true
 
-all-append : (xs ys : List ℕ) → list_all is_digit_or_point xs ≡ true → list_all is_digit_or_point ys ≡ true → list_all is_digit_or_point (xs ++ ys) ≡ true
+all-append : (xs ys : List ℕ) → list_all is_digit_or_point xs ≡ true → list_all is_digit_or_point ys ≡ true →
+    list_all is_digit_or_point (xs ++ ys) ≡ true
 all-append [] ys h g = g
 all-append (x ∷ xs) ys h g =
-    and_both (is_digit_or_point x) (list_all is_digit_or_point (xs ++ ys)) (and_left (is_digit_or_point x) (list_all is_digit_or_point xs) h)
+    and_both (is_digit_or_point x) (list_all is_digit_or_point (xs ++ ys))
+    (and_left (is_digit_or_point x) (list_all is_digit_or_point xs) h)
     (all-append xs ys (and_right (is_digit_or_point x) (list_all is_digit_or_point xs) h) g)
 
 in_run : (ds : List ℕ) → list_all is_ascii_digit ds ≡ true → list_all is_digit_or_point ds ≡ true
 in_run [] h = refl
 in_run (d ∷ ds) h =
-    and_both (is_digit_or_point d) (list_all is_digit_or_point ds) (digit_is_in_run d (and_left (is_ascii_digit d) (list_all is_ascii_digit ds) h))
+    and_both (is_digit_or_point d) (list_all is_digit_or_point ds)
+    (digit_is_in_run d (and_left (is_ascii_digit d) (list_all is_ascii_digit ds) h))
     (in_run ds (and_right (is_ascii_digit d) (list_all is_ascii_digit ds) h))
 
 nothing_below : 0 < 0 → ⊥

@@ -1,5 +1,6 @@
 -- A formula's text has its canonical tokens, each the longest at its place.
-use Rattle.std.proofs.Common.{◌≡◌, ℕ, Bool, true, false, None, List, [], ◌∷◌, ◌++◌, length, refl, sym, ◌∙◌, ap, subst, arith, append_assoc, append-nil}
+use Rattle.std.proofs.Common.{◌≡◌, ℕ, Bool, true, false, None, List, [], ◌∷◌, ◌++◌, length, refl, sym, ◌∙◌, ap, subst, arith}
+use Rattle.std.proofs.Common.{append_assoc, append-nil}
 use Rattle.std.specs.Prelude.{codes, slice_index_or}
 use Rattle.std.specs.Char.{is_ascii_digit}
 use Rattle.std.proofs.lemmas.Bool.Decides.{nat_tests}
@@ -12,7 +13,9 @@ use Rattle.csl_syntax.specs.declared.formula.Op.TheVariants.{Less, AtMost, More,
 use Rattle.csl_syntax.specs.declared.formula.Bound.{Bound}
 use Rattle.csl_syntax.specs.declared.formula.Bound.TheVariants.{Unbounded, Time, Reward}
 use Rattle.csl_syntax.specs.declared.token.Token.{Token}
-use Rattle.csl_syntax.specs.declared.token.Token.TheVariants.{Truth, Falsehood, Name, ProbabilityWord, NextWord, UntilWord, Bang, AndAnd, OrOr, OpenParen, CloseParen, OpenBrace, CloseBrace, OpenBracket, CloseBracket, Comma, Tilde, Compare, Number}
+use Rattle.csl_syntax.specs.declared.token.Token.TheVariants.{Truth, Falsehood, Name, ProbabilityWord, NextWord, UntilWord, Bang, AndAnd}
+use Rattle.csl_syntax.specs.declared.token.Token.TheVariants.{OrOr, OpenParen, CloseParen, OpenBrace, CloseBrace, OpenBracket}
+use Rattle.csl_syntax.specs.declared.token.Token.TheVariants.{CloseBracket, Comma, Tilde, Compare, Number}
 use Rattle.csl_syntax.specs.Scanner.{EndsRun}
 use Rattle.csl_syntax.specs.TokenText.{is_word, is_symbol, IsTokenBefore}
 use Rattle.csl_syntax.specs.Tokens.{op_text, Writes, HasTokens, no_more, skip, take_token}
@@ -26,7 +29,8 @@ use Rattle.csl_syntax.proofs.Fronts.{pair_before, single_before}
 use Rattle.csl_syntax.proofs.Outcomes.{formulas_are_over}
 use Rattle.csl_syntax.proofs.CanonicalTokens.{nought, wrapped, bound_tokens, spelling, spelled_again}
 use Rattle.csl_syntax.proofs.CanonicalShort.{HasShortLimit, HasShortNumbers, short_tokens, short_numbers}
-use Rattle.csl_syntax.proofs.CanonicalNumbers.{IsDigitsAndPoints, text_is, plain_number_before, word_of, ends_number, word_of_nought, nought_is}
+use Rattle.csl_syntax.proofs.CanonicalNumbers.{IsDigitsAndPoints, text_is, plain_number_before, word_of, ends_number, word_of_nought}
+use Rattle.csl_syntax.proofs.CanonicalNumbers.{nought_is}
 use Rattle.csl_syntax.proofs.CanonicalNames.{name_writes, label_is_word}
 
 -- the first of the bytes goes on with no name
@@ -48,27 +52,30 @@ module _ (labels : List (List ℕ)) where
   abbrev pub Reads : List ℕ → (List Token → List Token) → Type 0
   Reads text s = (after : List ℕ) (ts : List Token) → EndsRun continues_name after → Has after ts → Has (text ++ after) (s ts)
 
-  token : (text after : List ℕ) (t : Token) (ts : List Token) → IsTokenBefore (text ++ after) text after → Writes labels text t → Has after ts → Has (text ++ after) (t ∷ ts)
+  token : (text after : List ℕ) (t : Token) (ts : List Token) → IsTokenBefore (text ++ after) text after → Writes labels text t →
+      Has after ts → Has (text ++ after) (t ∷ ts)
   token text after t ts b w h = take_token (record { text = text; longest = b; writes = w }) h
 
-  word : (text after : List ℕ) (t : Token) (ts : List Token) → is_word text ≡ true → Writes labels text t → EndsRun continues_name after → Has after ts →
-      Has (text ++ after) (t ∷ ts)
+  word : (text after : List ℕ) (t : Token) (ts : List Token) → is_word text ≡ true → Writes labels text t →
+      EndsRun continues_name after → Has after ts → Has (text ++ after) (t ∷ ts)
   word text after t ts i w e h = token text after t ts (word_before (text ++ after) text after refl i e) w h
 
   -- the byte is a symbol, and with the next one it is none
   single : (b : ℕ) (after : List ℕ) (t : Token) (ts : List Token) → is_symbol (b ∷ []) ≡ true →
-      ((c : ℕ) (r : List ℕ) → after ≡ c ∷ r → is_symbol (b ∷ c ∷ []) ≡ false) → Writes labels (b ∷ []) t → Has after ts → Has (b ∷ after) (t ∷ ts)
+      ((c : ℕ) (r : List ℕ) → after ≡ c ∷ r → is_symbol (b ∷ c ∷ []) ≡ false) → Writes labels (b ∷ []) t →
+      Has after ts → Has (b ∷ after) (t ∷ ts)
   single b after t ts i e w h = token (b ∷ []) after t ts (single_before (b ∷ after) b after refl i e) w h
 
-  pair : (b c : ℕ) (after : List ℕ) (t : Token) (ts : List Token) → is_symbol (b ∷ c ∷ []) ≡ true → Writes labels (b ∷ c ∷ []) t → Has after ts →
-      Has (b ∷ c ∷ after) (t ∷ ts)
+  pair : (b c : ℕ) (after : List ℕ) (t : Token) (ts : List Token) → is_symbol (b ∷ c ∷ []) ≡ true →
+      Writes labels (b ∷ c ∷ []) t → Has after ts → Has (b ∷ c ∷ after) (t ∷ ts)
   pair b c after t ts i w h = token (b ∷ c ∷ []) after t ts (pair_before (b ∷ c ∷ after) b c after refl i) w h
 
-  number : (text after : List ℕ) (d : DecimalNumber) (ts : List Token) → IsDigitsAndPoints text → IsDecimalWord text d → EndsNumber None after → Has after ts →
-      Has (text ++ after) (Number d ∷ ts)
+  number : (text after : List ℕ) (d : DecimalNumber) (ts : List Token) → IsDigitsAndPoints text → IsDecimalWord text d →
+      EndsNumber None after → Has after ts → Has (text ++ after) (Number d ∷ ts)
   number text after d ts i w e h = token text after (Number d) ts (plain_number_before text after i e) w h
 
-  guarded_reads : (needed : Bool) (text : List ℕ) (s : List Token → List Token) → Reads text s → Reads (guarded needed text) (wrapped needed s)
+  guarded_reads : (needed : Bool) (text : List ℕ) (s : List Token → List Token) → Reads text s →
+      Reads (guarded needed text) (wrapped needed s)
   guarded_reads false text s reads after ts e h = reads after ts e h
   guarded_reads true text s reads after ts e h =
       single 40 ((text ++ codes ")") ++ after) OpenParen (s (CloseParen ∷ ts)) refl (λ c r f. refl) refl
@@ -76,29 +83,32 @@ module _ (labels : List (List ℕ)) where
       (reads (41 ∷ after) (CloseParen ∷ ts) (ends 41 after refl) (single 41 after CloseParen ts refl (λ c r f. refl) refl h)))
 
   -- two texts with a symbol of two equal bytes between them
-  joined : (left right : List ℕ) (s r : List Token → List Token) (b : ℕ) (t : Token) → is_symbol (b ∷ b ∷ []) ≡ true → Writes labels (b ∷ b ∷ []) t →
-      Reads left s → Reads right r → Reads (left ++ (32 ∷ b ∷ b ∷ 32 ∷ []) ++ right) (λ ts. s (t ∷ r ts))
+  joined : (left right : List ℕ) (s r : List Token → List Token) (b : ℕ) (t : Token) → is_symbol (b ∷ b ∷ []) ≡ true →
+      Writes labels (b ∷ b ∷ []) t → Reads left s → Reads right r →
+      Reads (left ++ (32 ∷ b ∷ b ∷ 32 ∷ []) ++ right) (λ ts. s (t ∷ r ts))
   joined left right s r b t i w reads reads_right after ts e h =
       let middle = 32 ∷ b ∷ b ∷ 32 ∷ [] in
       let behind : Has (b ∷ b ∷ 32 ∷ (right ++ after)) (t ∷ r ts) =
       pair b b (32 ∷ (right ++ after)) t (r ts) i w (skip refl refl (reads_right after ts e h)) in
-      subst (λ bytes. Has bytes (s (t ∷ r ts))) (sym (append_assoc (left ++ middle) right after ∙ append_assoc left middle (right ++ after)))
+      subst (λ bytes. Has bytes (s (t ∷ r ts)))
+      (sym (append_assoc (left ++ middle) right after ∙ append_assoc left middle (right ++ after)))
       (reads (32 ∷ b ∷ b ∷ 32 ∷ (right ++ after)) (t ∷ r ts) (ends 32 _ refl) (skip refl refl behind))
 
   -- a comparison, and then a digit
-  compared : (op : Op) (after : List ℕ) (ts : List Token) → ((c : ℕ) (r : List ℕ) → after ≡ c ∷ r → is_ascii_digit c ≡ true) → Has after ts →
-      Has (op_text op ++ after) (Compare op ∷ ts)
+  compared : (op : Op) (after : List ℕ) (ts : List Token) →
+      ((c : ℕ) (r : List ℕ) → after ≡ c ∷ r → is_ascii_digit c ≡ true) → Has after ts → Has (op_text op ++ after) (Compare op ∷ ts)
   compared Less after ts d h = single 60 after (Compare Less) ts refl (λ c r e. digit_ends_less c (d c r e)) refl h
   compared AtMost after ts d h = pair 60 61 after (Compare AtMost) ts refl refl h
   compared More after ts d h = single 62 after (Compare More) ts refl (λ c r e. digit_ends_more c (d c r e)) refl h
   compared AtLeast after ts d h = pair 62 61 after (Compare AtLeast) ts refl refl h
 
-  zero_before : (b : ℕ) (more : List ℕ) (ts : List Token) → EndsNumber None (b ∷ more) → Has (b ∷ more) ts → Has (48 ∷ b ∷ more) (Number nought ∷ ts)
+  zero_before : (b : ℕ) (more : List ℕ) (ts : List Token) → EndsNumber None (b ∷ more) → Has (b ∷ more) ts →
+      Has (48 ∷ b ∷ more) (Number nought ∷ ts)
   zero_before b more ts e h = number (codes "0") (b ∷ more) nought ts nought_is word_of_nought e h
 
   -- a decimal, and then the end of brackets or braces
-  limit : (d : DecimalNumber) → IsShortDecimal d → (b : ℕ) (more : List ℕ) (ts : List Token) → EndsNumber None (b ∷ more) → Has (b ∷ more) ts →
-      Has (canonical_text d ++ (b ∷ more)) (Number d ∷ ts)
+  limit : (d : DecimalNumber) → IsShortDecimal d → (b : ℕ) (more : List ℕ) (ts : List Token) → EndsNumber None (b ∷ more) →
+      Has (b ∷ more) ts → Has (canonical_text d ++ (b ∷ more)) (Number d ∷ ts)
   limit d short b more ts e h = number (canonical_text d) (b ∷ more) d ts (text_is d short) (word_of d short) e h
 
   -- a decimal, and then a bracket that closes
@@ -106,7 +116,8 @@ module _ (labels : List (List ℕ)) where
       Has ((canonical_text d ++ codes "]") ++ after) (Number d ∷ CloseBracket ∷ ts)
   closed d short after ts h =
       subst (λ bytes. Has bytes (Number d ∷ CloseBracket ∷ ts)) (sym (append_assoc (canonical_text d) (codes "]") after))
-      (limit d short 93 after (CloseBracket ∷ ts) (ends_number 93 after refl refl) (single 93 after CloseBracket ts refl (λ c r f. refl) refl h))
+      (limit d short 93 after (CloseBracket ∷ ts) (ends_number 93 after refl refl)
+      (single 93 after CloseBracket ts refl (λ c r f. refl) refl h))
 
   bound_reads : (b : Bound) → HasShortLimit b → Reads (bound_text b) (λ ts. UntilWord ∷ bound_tokens b ts)
   bound_reads Unbounded short after ts e h = word (codes "U") after UntilWord ts refl refl e h
@@ -133,7 +144,8 @@ module _ (labels : List (List ℕ)) where
       ap is_ascii_digit (sym (same_first i.first c (i.others ++ more) r (sym (ap (λ s. s ++ more) i.split) ∙ e))) ∙ i.digit
 
   parts : (op threshold path after : List ℕ) →
-      (codes "P{" ++ op ++ threshold ++ codes "}[" ++ path ++ codes "]") ++ after ≡ 80 ∷ 123 ∷ (op ++ (threshold ++ (125 ∷ 91 ∷ (path ++ (93 ∷ after)))))
+      (codes "P{" ++ op ++ threshold ++ codes "}[" ++ path ++ codes "]") ++ after
+      ≡ 80 ∷ 123 ∷ (op ++ (threshold ++ (125 ∷ 91 ∷ (path ++ (93 ∷ after)))))
   parts op threshold path after = six (codes "P{") op threshold (codes "}[") path (codes "]") after
     where
       six : (a b c d e f g : List ℕ) → (a ++ b ++ c ++ d ++ e ++ f) ++ g ≡ a ++ (b ++ (c ++ (d ++ (e ++ (f ++ g)))))
@@ -152,7 +164,8 @@ module _ (labels : List (List ℕ)) where
       subst (λ bytes. Has bytes (operator op q (s (CloseBracket ∷ ts)))) (sym (parts (op_text op) (canonical_text q) path after))
       (word (codes "P") (123 ∷ (op_text op ++ (canonical_text q ++ (125 ∷ 91 ∷ inner)))) ProbabilityWord _ refl refl (ends 123 _ refl)
       (single 123 (op_text op ++ (canonical_text q ++ (125 ∷ 91 ∷ inner))) OpenBrace _ refl (λ c r f. refl) refl
-      (compared op (canonical_text q ++ (125 ∷ 91 ∷ inner)) _ (first_digit (canonical_text q) (125 ∷ 91 ∷ inner) (text_is q short)) threshold)))
+      (compared op (canonical_text q ++ (125 ∷ 91 ∷ inner)) _
+      (first_digit (canonical_text q) (125 ∷ 91 ∷ inner) (text_is q short)) threshold)))
 
   next_reads : (text : List ℕ) (s : List Token → List Token) → Reads text s → Reads (codes "X " ++ text) (λ ts. NextWord ∷ s ts)
   next_reads text s reads after ts e h =
@@ -192,7 +205,8 @@ module _ (labels : List (List ℕ)) where
         (next_reads (formula_text labels f) (spelling f) (formula_reads f over.1 short.1))
     formula_reads (until op q f b g) over short =
         operator_reads op q _ (λ ts. spelling f (UntilWord ∷ bound_tokens b (spelling g ts))) short.0
-        (until_reads (formula_text labels f) (bound_text b) (formula_text labels g) (spelling f) (λ ts. UntilWord ∷ bound_tokens b ts) (spelling g)
+        (until_reads (formula_text labels f) (bound_text b) (formula_text labels g)
+        (spelling f) (λ ts. UntilWord ∷ bound_tokens b ts) (spelling g)
         (formula_reads f over.1 short.1) (bound_reads b short.2) (formula_reads g over.2 short.3))
 
 pub text_reads_back : TextReadsBack

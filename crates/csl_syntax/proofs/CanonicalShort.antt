@@ -8,7 +8,8 @@ use Rattle.csl_syntax.specs.declared.token.Token.{Token}
 use Rattle.csl_syntax.specs.declared.token.Token.TheVariants.{Number}
 use Rattle.csl_syntax.specs.Tree.{Tree, truth, falsehood, label, negation, conjunction, disjunction, next, until}
 use Rattle.csl_syntax.specs.Tokens.{Writes, HasTokens, no_more, skip, take_token}
-use Rattle.csl_syntax.specs.Grammar.{Level, IsBound, no_bound, any_time, in_time, in_reward, Derives, a_truth, a_falsehood, a_name, in_parens, a_next, an_until, a_not, an_atom, an_and, a_unary, an_or, a_conj}
+use Rattle.csl_syntax.specs.Grammar.{Level, IsBound, no_bound, any_time, in_time, in_reward, Derives, a_truth, a_falsehood, a_name}
+use Rattle.csl_syntax.specs.Grammar.{in_parens, a_next, an_until, a_not, an_atom, an_and, a_unary, an_or, a_conj}
 
 abbrev pub IsShortToken : Token → Type 0
 IsShortToken (Number d) = IsShortDecimal d
@@ -49,7 +50,8 @@ short_limit (any_time z) h = (tt, h.1.1.1.1.1)
 short_limit (in_time z) h = (h.1.1.1.0, h.1.1.1.1.1)
 short_limit (in_reward z y) h = (h.1.1.1.1.1.1.1.1.0, h.1.1.1.1.1.1.1.1.1.1)
 
-pub short_numbers : {N T d : ℕ} {lv : Level} {f : Tree} {s r : List Token} → Derives N T d lv f s r → AreShort s → HasShortNumbers f × AreShort r
+pub short_numbers : {N T d : ℕ} {lv : Level} {f : Tree} {s r : List Token} → Derives N T d lv f s r → AreShort s →
+    HasShortNumbers f × AreShort r
 short_numbers a_truth h = (tt, h.1)
 short_numbers a_falsehood h = (tt, h.1)
 short_numbers (a_name k) h = (tt, h.1)

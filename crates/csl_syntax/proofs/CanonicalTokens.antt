@@ -4,9 +4,11 @@ use Rattle.decimal_text.specs.DecimalNumber.{DecimalNumber}
 use Rattle.csl_syntax.specs.declared.formula.Bound.{Bound}
 use Rattle.csl_syntax.specs.declared.formula.Bound.TheVariants.{Unbounded, Time, Reward}
 use Rattle.csl_syntax.specs.declared.token.Token.{Token}
-use Rattle.csl_syntax.specs.declared.token.Token.TheVariants.{Truth, Falsehood, Name, NextWord, UntilWord, Bang, AndAnd, OrOr, OpenParen, CloseParen, OpenBracket, CloseBracket, Comma, Tilde, Number}
+use Rattle.csl_syntax.specs.declared.token.Token.TheVariants.{Truth, Falsehood, Name, NextWord, UntilWord, Bang, AndAnd, OrOr, OpenParen}
+use Rattle.csl_syntax.specs.declared.token.Token.TheVariants.{CloseParen, OpenBracket, CloseBracket, Comma, Tilde, Number}
 use Rattle.csl_syntax.specs.Tree.{Tree, truth, falsehood, label, negation, conjunction, disjunction, next, until}
-use Rattle.csl_syntax.specs.Grammar.{Level, formula, conj, unary, atom, operator, IsBound, no_bound, in_time, in_reward, Derives, a_truth, a_falsehood, a_name, in_parens, a_next, an_until, a_not, an_atom, an_and, a_unary, an_or, a_conj}
+use Rattle.csl_syntax.specs.Grammar.{Level, formula, conj, unary, atom, operator, IsBound, no_bound, in_time, in_reward, Derives, a_truth}
+use Rattle.csl_syntax.specs.Grammar.{a_falsehood, a_name, in_parens, a_next, an_until, a_not, an_atom, an_and, a_unary, an_or, a_conj}
 use Rattle.csl_syntax.specs.CanonicalText.{is_disjunction, is_junction}
 use Rattle.csl_syntax.proofs.Complete.{roomier}
 

@@ -15,7 +15,8 @@ pub pending_text-append : (labels : List (List ℕ)) (ps : List Piece) (p : Piec
     pending_text labels (ps ++ p ∷ []) ≡ piece_text labels p ++ pending_text labels ps
 pending_text-append labels [] p = sym (append-nil (piece_text labels p))
 pending_text-append labels (q ∷ ps) p =
-    ap (λ s. s ++ piece_text labels q) (pending_text-append labels ps p) ∙ append_assoc (piece_text labels p) (pending_text labels ps) (piece_text labels q)
+    ap (λ s. s ++ piece_text labels q) (pending_text-append labels ps p)
+    ∙ append_assoc (piece_text labels p) (pending_text labels ps) (piece_text labels q)
 
 pub pending_size-append : (ps : List Piece) (p : Piece) → pending_size (ps ++ p ∷ []) ≡ pending_size ps + piece_size p
 pending_size-append [] p = refl
@@ -39,7 +40,8 @@ parts : (old p op threshold q left space bound right r rest : List ℕ) →
 parts old p op threshold q left space bound right r rest = simp append_assoc
 
 -- what is written of an until, and then its parts that are pending
-pub until_parts : (labels : List (List ℕ)) (op : Op) (threshold : DecimalNumber) (f g : Tree) (bound : Bound) (old new first word second close rest : List ℕ) →
+pub until_parts : (labels : List (List ℕ)) (op : Op) (threshold : DecimalNumber) (f g : Tree) (bound : Bound)
+    (old new first word second close rest : List ℕ) →
     new ≡ old ++ (codes "P{" ++ op_text op ++ canonical_text threshold ++ codes "}[") → first ≡ formula_text labels f ++ word →
     word ≡ (codes " " ++ bound_text bound ++ codes " ") ++ second → second ≡ formula_text labels g ++ close → close ≡ codes "]" ++ rest →
     new ++ first ≡ old ++ (formula_text labels (until op threshold f bound g) ++ rest)

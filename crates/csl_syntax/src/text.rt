@@ -117,7 +117,8 @@ fn put_guarded<'a>(
     ensures text { OnOk result ((labels : List (List ℕ)) → pending_text labels pending.new.items
         ≡ guarded needed (formula_text labels (tree_of part.now)) ++ pending_text labels pending.old.items) }
     ensures size { OnOk result (pending_size pending.new.items ≤ pending_size pending.old.items + tree_size (tree_of part.now) + 2) }
-    ensures over { OnOk result ((n : ℕ) → IsOver n (tree_of part.now) → PendingIsOver n pending.old.items → PendingIsOver n pending.new.items) }
+    ensures over { OnOk result ((n : ℕ) → IsOver n (tree_of part.now)
+        → PendingIsOver n pending.old.items → PendingIsOver n pending.new.items) }
 {
     if needed {
         put(pending, Piece::Text(b")"))?;
@@ -130,9 +131,11 @@ fn put_guarded<'a>(
 
 // Puts off a piece: it is the next.
 fn put<'a>(pending: &mut Vec<Piece<'a>>, piece: Piece<'a>) -> Result<(), AllocError>
-    ensures text { OnOk result ((labels : List (List ℕ)) → pending_text labels pending.new.items ≡ piece_text labels piece.entry ++ pending_text labels pending.old.items) }
+    ensures text { OnOk result ((labels : List (List ℕ)) → pending_text labels pending.new.items
+        ≡ piece_text labels piece.entry ++ pending_text labels pending.old.items) }
     ensures size { OnOk result (pending_size pending.new.items ≡ pending_size pending.old.items + piece_size piece.entry) }
-    ensures over { OnOk result ((n : ℕ) → PieceIsOver n piece.entry → PendingIsOver n pending.old.items → PendingIsOver n pending.new.items) }
+    ensures over { OnOk result ((n : ℕ) → PieceIsOver n piece.entry
+        → PendingIsOver n pending.old.items → PendingIsOver n pending.new.items) }
 {
     pending.push(piece)?;
     Ok(())

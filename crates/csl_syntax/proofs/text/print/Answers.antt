@@ -24,5 +24,7 @@ loop-piece-preserved c =
           (sym (ap (pending_text c.args.labels.now) c.in-Some.ensures.items
           ∙ pending_text-append c.args.labels.now c.pop.new.self.items c.in-Some.piece))
           ∙ c.loop-piece.invariant.0,
-      c.in_ok-write.ensures.over (over_front n c.pop.new.self.items c.in-Some.piece (subst (PendingIsOver n) c.in-Some.ensures.items c.loop-piece.invariant.1)),
+      c.in_ok-write.ensures.over
+          (over_front n c.pop.new.self.items c.in-Some.piece
+          (subst (PendingIsOver n) c.in-Some.ensures.items c.loop-piece.invariant.1)),
     )
