@@ -1,4 +1,5 @@
--- What is wrong with a line, and in which column: the first of its tokens that doesn't pass.
+-- What is wrong with a line, and in which column: the first of its tokens that doesn't pass. A token is unexpected as soon as no formula
+-- begins with the tokens up to and with it (the correct prefix property: Aho, Ullman 1972).
 use Rattle.std.specs.Prelude.{◌≡◌, ℕ, ◌+◌, ◌<◌, ◌≤◌, ◌⊎◌, IsTrue, List, [], ◌∷◌, ◌++◌, length, ⊤}
 use Rattle.decimal_text.specs.DecimalNumber.{DecimalNumber}
 use Rattle.decimal_text.specs.DecimalWord.{HasNumberFault}
