@@ -33,8 +33,7 @@ abbrev pub probability_text : Op → DecimalNumber → List ℕ → List ℕ
 probability_text op threshold path = codes "P{" ++ op_text op ++ canonical_text threshold ++ codes "}[" ++ path ++ codes "]"
 
 -- the text of a formula over these labels: no space but round `&&`, `||` and `U` and behind `X`, parentheses only where they are needed,
--- and
--- numbers as they are printed
+-- and numbers as they are printed
 abbrev pub formula_text : List (List ℕ) → Tree → List ℕ
 formula_text labels truth = codes "tt"
 formula_text labels falsehood = codes "ff"

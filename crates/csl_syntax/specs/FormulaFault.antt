@@ -1,4 +1,5 @@
--- What is wrong with a line, and in which column: the first of its tokens that doesn't pass.
+-- What is wrong with a line, and in which column: the first of its tokens that doesn't pass. A token is unexpected as soon as no formula
+-- begins with the tokens up to and with it (the correct prefix property: Aho, Ullman 1972).
 use Rattle.std.specs.Prelude.{◌≡◌, ℕ, ◌+◌, ◌<◌, ◌≤◌, ◌⊎◌, IsTrue, List, [], ◌∷◌, ◌++◌, length, ⊤}
 use Rattle.decimal_text.specs.DecimalNumber.{DecimalNumber}
 use Rattle.decimal_text.specs.DecimalWord.{HasNumberFault}
@@ -71,8 +72,8 @@ IsEnclosing OpenParen = ⊤
 IsEnclosing ProbabilityWord = ⊤
 IsEnclosing other = ⊥
 
--- at the head of the bytes begins a construct that too many others enclose: formulas go on so, but each of them nests more than a line's
--- may
+-- at the head of the bytes begins a construct that too many others enclose: formulas go on so, but each of them nests more than a
+-- line's may
 pub record HasDeepConstruct (labels : List (List ℕ)) (before : List Token) (bytes : List ℕ) : Type 0 where
   pub token : Token
   pub encloses : IsEnclosing token
@@ -91,9 +92,8 @@ FailsBy labels before bytes what.Threshold = HasGreatThreshold labels before byt
 FailsBy labels before bytes what.Depth = HasDeepConstruct labels before bytes
 FailsBy labels before bytes what.Length = ⊥
 
--- the line isn't too long, and in this column, from 1, it fails so, after tokens all of which pass: a formula within the limits begins
--- with
--- them
+-- the line isn't too long, and in this column, from 1, it fails so, after tokens all of which pass: a formula within the limits
+-- begins with them
 pub record LineFailsAt (line : List ℕ) (labels : List (List ℕ)) (column : ℕ) (fault : FormulaWhat) : Type 0 where
   pub short : length line ≤ MOST_BYTES
   pub before : List Token

@@ -1,4 +1,5 @@
--- The grammar of formulas, a rule a constructor.
+-- The grammar of formulas, a rule a constructor. That a derivation says which tokens it leaves over is the way of difference lists (Clark,
+-- Tärnlund 1977).
 use Rattle.std.specs.Prelude.{◌≡◌, ℕ, suc, ◌<◌, List, [], ◌∷◌, ◌++◌}
 use Rattle.decimal_text.specs.DecimalNumber.{DecimalNumber}
 use Rattle.csl_syntax.specs.declared.formula.Op.{Op}
@@ -35,9 +36,9 @@ pub data IsBound : Bound → List Token → List Token → Type 0 where
       → IsBound Unbounded (OpenBracket ∷ Number z ∷ Comma ∷ Tilde ∷ CloseBracket ∷ r) r
   in_time : {z t : DecimalNumber} {r : List Token} → IsZero z
       → IsBound (Time t) (OpenBracket ∷ Number z ∷ Comma ∷ Number t ∷ CloseBracket ∷ r) r
-  in_reward : {z y t : DecimalNumber} {r : List Token} → IsZero z → IsZero y →
-      IsBound (Reward t) (OpenBracket ∷ Number z ∷ Comma ∷ Tilde ∷ CloseBracket ∷ OpenBracket ∷ Number y ∷ Comma ∷ Number
-      t ∷ CloseBracket ∷ r) r
+  in_reward : {z y t : DecimalNumber} {r : List Token} → IsZero z → IsZero y
+      → IsBound (Reward t)
+      (OpenBracket ∷ Number z ∷ Comma ∷ Tilde ∷ CloseBracket ∷ OpenBracket ∷ Number y ∷ Comma ∷ Number t ∷ CloseBracket ∷ r) r
 
 -- over this many labels, with thresholds up to this number and room for d nested negations, parentheses and probability operators, the
 -- tokens of s before r are f, at the level

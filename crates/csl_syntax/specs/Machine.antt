@@ -1,6 +1,5 @@
--- How the tokens are read, one after another: a state after each, with the formulas read so far. It serves the proofs; nothing of it is
--- in what
--- a reader must believe.
+-- How the tokens are read, one after another: a state after each, with the formulas read so far. It serves the proofs alone: the definitions
+-- know nothing of it.
 use Rattle.std.specs.Prelude.{ℕ, zero, suc, ◌*◌, ◌^◌, Bool, true, false, nat_lt, nat_le, List, [], ◌∷◌, Option, Some, None}
 use Rattle.decimal_text.specs.DecimalNumber.{DecimalNumber}
 use Rattle.csl_syntax.specs.declared.fault.FormulaWhat.{FormulaWhat}
@@ -14,14 +13,14 @@ use Rattle.csl_syntax.specs.declared.formula.Bound.{Bound}
 use Rattle.csl_syntax.specs.declared.formula.Bound.TheVariants.{Unbounded, Time, Reward}
 use Rattle.csl_syntax.specs.Tree.{Tree, truth, falsehood, label, negation, conjunction, disjunction, next, until}
 
--- What was read of a formula that is not at its end: the part before the last `||`, the part from there to the last
--- `&&`, and the count of `!` after it.
+-- what a formula that is not at its end is part of
 pub data Kind : Type 0 where
   parens : Kind
   of_next : Op → DecimalNumber → Kind
   until_left : Op → DecimalNumber → Kind
   until_right : Op → DecimalNumber → Tree → Bound → Kind
 
+-- what has come of the fixed parts of a probability operator
 pub data Phase : Type 0 where
   p_brace : Phase
   p_op : Phase
@@ -41,6 +40,8 @@ pub data Phase : Type 0 where
   v_limit : Op → DecimalNumber → Tree → Phase
   v_close : Op → DecimalNumber → Tree → DecimalNumber → Phase
 
+-- what was read of a formula that is not at its end: the part before the last `||`, the part from there to the last `&&`, and the count of
+-- `!` after it
 pub record Layer : Type 0 where
   pub kind : Kind
   pub either : Option Tree

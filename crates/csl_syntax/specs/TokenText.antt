@@ -1,4 +1,4 @@
--- The texts of tokens: words, numbers and symbols. At its place a token is the longest text that fits.
+-- The texts of tokens: words, numbers and symbols. At its place a token is the longest text that fits (the rule of Lex: Lesk 1975).
 use Rattle.std.specs.Prelude.{◌≡◌, ℕ, ◌<◌, ◌≤◌, ◌⊎◌, Bool, false, ◌&&◌, ◌||◌, ◌==◌, IsTrue, Option, List, [], ◌∷◌, ◌++◌, length, codes}
 use Rattle.std.specs.Prelude.{bytes_eq}
 use Rattle.std.specs.Char.{is_ascii_digit}

@@ -21,7 +21,7 @@ struct Innermost {
     bangs: u32,
 }
 
-// The innermost of the formulas that are not at their end, where there is one; the room is given back that it had.
+// The innermost of the formulas that are not at their end, where there is one, with this room in it.
 fn pop_innermost(room: u32, outer: Vec<Pending>) -> Option<Innermost>
     requires { room + nested outer.items ≡ MOST_NESTED }
     ensures { MatchOption result (outer.items ≡ [])

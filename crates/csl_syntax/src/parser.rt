@@ -21,8 +21,8 @@ use text_lines::Name;
 
 /// The formula for which the line stands over these labels, or the fault of the line and its column.
 ///
-/// A label is named by its number in the list, from 0; where two labels have one name, it is the first. Whatever the line
-/// nests and however long its chains of operators are, nothing recurs on it.
+/// A label is named by its number in the list, from 0; where two labels have one name, it is the first. The parser doesn't
+/// recur, whatever the line nests and however long its chains of operators are.
 ///
 /// - `Length`: the line has more than 4,096 bytes; at column 4,097, and before all else.
 ///
