@@ -86,7 +86,15 @@ fn serve_input(
     let mut files = SureFiles::new(input.files(alloc)?);
     let mut formulas = SureSource::new(input.formulas.to_vec(alloc)?, cut);
     let mut out = SureSink::new(Vec::new(alloc), cut);
-    let status = serve_surely(rt, alloc, &words, &mut files, &mut formulas, &mut out);
+    let status = serve(
+        rt,
+        alloc,
+        &words,
+        &mut files,
+        &mut formulas,
+        &mut out,
+        &OpenGate,
+    );
     Ok((status, out.bytes().to_vec(alloc)?))
 }
 

@@ -5,10 +5,8 @@ use text_lines::FileWhat;
 // A chain of two states in so many bytes, most of which are blanks.
 fn padded_chain(alloc: Global, bytes: usize) -> Result<Vec<u8>, AllocError> {
     let mut tra = Vec::from_slice(alloc, b"STATES 3\nTRANSITIONS 2\n1 2 3\n1 3 7\n")?;
-    while tra.len() < bytes {
-        let more = (bytes - tra.len()).min(4096);
-        tra.extend_from_slice(&[b' '; 4096][..more])?;
-    }
+    let blanks = bytes.saturating_sub(tra.len());
+    tra.extend_from_slice(&vec![in alloc; b' '; blanks]?)?;
     Ok(tra)
 }
 

@@ -142,3 +142,15 @@ fn a_bracket_is_rounded_outward(rt: HostRuntime) -> Result<(), Fail> {
         text,
     )
 }
+
+#[test]
+fn the_worked_example_is_answered(rt: HostRuntime) -> Result<(), Fail> {
+    let (status, out) = serve_example(&rt, rt.alloc())?;
+    let text = str::from_utf8(out.bytes())?;
+    assert_eq!(rt;
+        text,
+        "formula P{>=0.5}[X a]\n1 satisfied 1.000000000000 1.000000000000\n2 refuted 0.000000000000 0.000000000000\n"
+    );
+    assert_eq!(rt; status, Status::Done);
+    Ok(())
+}
