@@ -8,14 +8,14 @@ use crate::formula::{Bound, Formula, Op};
 use decimal_text::Decimal;
 use std::alloc::{AllocError, Global};
 
-// The formula, in memory of its own.
+/// The formula, in memory of its own.
 pub fn boxed(alloc: Global, formula: Formula) -> Result<Box<Formula>, AllocError>
     ensures { IfOk result (λ g. tree_of g.value ≡ tree_of formula) }
 {
     Ok(Box::new(alloc, formula)?)
 }
 
-// The formula under so many `!`.
+/// The formula under so many `!`.
 pub fn negated(alloc: Global, count: u32, formula: Box<Formula>) -> Result<Box<Formula>, AllocError>
     ensures { IfOk result (λ g. tree_of g.value ≡ negated count (tree_of formula.value)) }
 {
@@ -28,7 +28,7 @@ pub fn negated(alloc: Global, count: u32, formula: Box<Formula>) -> Result<Box<F
     Ok(whole)
 }
 
-// The formula, after the part before the last `&&` if there is one.
+/// The formula, after the part before the last `&&` if there is one.
 pub fn with_both(
     alloc: Global,
     both: Option<Box<Formula>>,
@@ -56,7 +56,7 @@ fn with_either(
     }
 }
 
-// The whole formula that ends with this one.
+/// The whole formula that ends with this one.
 pub fn joined(
     alloc: Global,
     either: Option<Box<Formula>>,

@@ -1,5 +1,5 @@
 // Tokens that end a formula within another.
-ghost use Rattle.std.specs.Prelude.{◌≡◌, ◌+◌, [], IfOk, MatchOption};
+ghost use Rattle.std.specs.Prelude.{◌≡◌, ◌+◌, [], IfOk, MatchResult};
 ghost use Rattle.csl_syntax.specs.Tree.{tree_of};
 ghost use Rattle.csl_syntax.specs.Machine.{closed, boxed, turned};
 ghost use Rattle.csl_syntax.specs.View.{outer_from, kind_of, nested, IsCounted, IsFilled, IsInnermost, Goes};
@@ -21,21 +21,25 @@ struct Innermost {
     bangs: u32,
 }
 
-// The innermost of the formulas that are not at their end, where there is one, with this room in it.
-fn pop_innermost(room: u32, outer: Vec<Pending>) -> Option<Innermost>
+// Opens the innermost of the formulas that are not at their end, with this room in it. Where there is none, no formula goes
+// on so.
+fn open_innermost(room: u32, outer: Vec<Pending>) -> Result<Innermost, Stop>
     requires { room + nested outer.items ≡ MOST_NESTED }
-    ensures { MatchOption result (outer.items ≡ [])
-        (λ e. IsInnermost outer.items (kind_of e.kind) e.context e.bangs × (e.context.room ≡ room)) }
+    ensures { MatchResult result
+        (λ e. IsInnermost outer.items (kind_of e.kind) e.context e.bangs × (e.context.room ≡ room))
+        (λ stop. (outer.items ≡ []) × (stop ≡ Stop.Fails FormulaWhat.Expected)) }
 {
     let mut outer = outer;
-    let pending = outer.pop()?;
+    let Some(pending) = outer.pop() else {
+        return Err(Stop::Fails(FormulaWhat::Expected));
+    };
     let Pending {
         kind,
         either,
         both,
         bangs,
     } = pending;
-    Some(Innermost {
+    Ok(Innermost {
         kind,
         context: Context {
             room,
@@ -47,7 +51,7 @@ fn pop_innermost(room: u32, outer: Vec<Pending>) -> Option<Innermost>
     })
 }
 
-// `)` comes.
+/// `)` comes.
 pub fn close_paren(
     alloc: Global,
     room: u32,
@@ -58,23 +62,20 @@ pub fn close_paren(
     ensures gives { Goes result (closed room (outer_from [] outer.items) (tree_of formula.value)) }
     ensures counted { IfOk result IsCounted }
 {
-    let Some(innermost) = pop_innermost(room, outer) else {
-        return Err(Stop::Fails(FormulaWhat::Expected));
-    };
     let Innermost {
         kind,
         context,
         bangs,
-    } = innermost;
+    } = open_innermost(room, outer)?;
     match kind {
         Kind::Parens => operand(alloc, context.freed(), bangs, formula),
-        Kind::OfNext(_, _) => Err(Stop::Fails(FormulaWhat::Expected)),
-        Kind::UntilLeft(_, _) => Err(Stop::Fails(FormulaWhat::Expected)),
-        Kind::UntilRight(_, _, _, _) => Err(Stop::Fails(FormulaWhat::Expected)),
+        Kind::OfNext(..) | Kind::UntilLeft(..) | Kind::UntilRight(..) => {
+            Err(Stop::Fails(FormulaWhat::Expected))
+        }
     }
 }
 
-// `]` comes.
+/// `]` comes.
 pub fn close_bracket(
     alloc: Global,
     room: u32,
@@ -85,14 +86,11 @@ pub fn close_bracket(
     ensures gives { Goes result (boxed room (outer_from [] outer.items) (tree_of formula.value)) }
     ensures counted { IfOk result IsCounted }
 {
-    let Some(innermost) = pop_innermost(room, outer) else {
-        return Err(Stop::Fails(FormulaWhat::Expected));
-    };
     let Innermost {
         kind,
         context,
         bangs,
-    } = innermost;
+    } = open_innermost(room, outer)?;
     match kind {
         Kind::OfNext(op, threshold) => {
             let whole = next(alloc, op, threshold, formula)?;
@@ -102,32 +100,28 @@ pub fn close_bracket(
             let whole = until(alloc, op, threshold, left, bound, formula)?;
             operand(alloc, context.freed(), bangs, whole)
         }
-        Kind::Parens => Err(Stop::Fails(FormulaWhat::Expected)),
-        Kind::UntilLeft(_, _) => Err(Stop::Fails(FormulaWhat::Expected)),
+        Kind::Parens | Kind::UntilLeft(..) => Err(Stop::Fails(FormulaWhat::Expected)),
     }
 }
 
-// `U` comes.
+/// `U` comes.
 pub fn until_word(room: u32, outer: Vec<Pending>, formula: Box<Formula>) -> Result<Machine, Stop>
     requires { room + nested outer.items ≡ MOST_NESTED }
     ensures gives { Goes result (turned room (outer_from [] outer.items) (tree_of formula.value)) }
     ensures counted { IfOk result IsCounted }
 {
-    let Some(innermost) = pop_innermost(room, outer) else {
-        return Err(Stop::Fails(FormulaWhat::Expected));
-    };
     let Innermost {
         kind,
         context,
         bangs,
-    } = innermost;
+    } = open_innermost(room, outer)?;
     match kind {
         Kind::UntilLeft(op, threshold) => Ok(Machine {
             context,
             place: Place::Within(Phase::Start(op, threshold, formula), bangs),
         }),
-        Kind::Parens => Err(Stop::Fails(FormulaWhat::Expected)),
-        Kind::OfNext(_, _) => Err(Stop::Fails(FormulaWhat::Expected)),
-        Kind::UntilRight(_, _, _, _) => Err(Stop::Fails(FormulaWhat::Expected)),
+        Kind::Parens | Kind::OfNext(..) | Kind::UntilRight(..) => {
+            Err(Stop::Fails(FormulaWhat::Expected))
+        }
     }
 }

@@ -12,14 +12,14 @@ use crate::token::Token;
 use crate::word::first_word;
 use text_lines::Name;
 
-// A token at the head of bytes, and what comes after it.
+/// A token at the head of bytes, and what comes after it.
 #[derive(Clone, Copy)]
 pub struct Front<'a> {
     pub token: Token,
     pub rest: &'a [u8],
 }
 
-// The token at the head of the bytes, which isn't empty and begins with no blank; or what fails there.
+/// The token at the head of the bytes, which isn't empty and begins with no blank; or what fails there.
 pub fn first_token<'a>(bytes: &'a [u8], labels: &[Name]) -> Result<Front<'a>, FormulaWhat>
     requires some { 0 < length bytes.now }
     requires solid { IsTrue (not (is_blank (slice_index bytes.now 0))) }
@@ -41,7 +41,7 @@ pub fn first_token<'a>(bytes: &'a [u8], labels: &[Name]) -> Result<Front<'a>, Fo
     }
 }
 
-// What comes after the spaces and tabs at the head of the bytes.
+/// What comes after the spaces and tabs at the head of the bytes.
 pub fn skip_blanks(bytes: &[u8]) -> &[u8]
     ensures { SkipsBlanks bytes.now result.now }
 {

@@ -11,7 +11,7 @@ use crate::machine::{Kind, Phase};
 use crate::token::Token;
 use decimal_text::Decimal;
 
-// What comes of a token within the fixed parts of a probability operator.
+/// What comes of a token within the fixed parts of a probability operator.
 #[derive(Drop)]
 pub enum Lead {
     // Another fixed part.

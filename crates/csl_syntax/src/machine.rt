@@ -4,7 +4,7 @@ use crate::limits::MOST_NESTED;
 use decimal_text::Decimal;
 use std::alloc::{AllocError, Global};
 
-// What a formula that is not at its end is part of.
+/// What a formula that is not at its end is part of.
 #[derive(Drop)]
 pub enum Kind {
     Parens,
@@ -13,7 +13,7 @@ pub enum Kind {
     UntilRight(Op, Decimal, Box<Formula>, Bound),
 }
 
-// What has come of the fixed parts of a probability operator.
+/// What has come of the fixed parts of a probability operator.
 #[derive(Drop)]
 pub enum Phase {
     Brace,
@@ -35,8 +35,8 @@ pub enum Phase {
     RewardEnd(Op, Decimal, Box<Formula>, Decimal),
 }
 
-// A formula that is not at its end, where another is read within it: what it is part of, its part before the last `||`,
-// the part from there to the last `&&`, and the count of `!` after it.
+/// A formula that is not at its end, where another is read within it: what it is part of, its part before the last `||`,
+/// the part from there to the last `&&`, and the count of `!` after it.
 #[derive(Drop)]
 pub struct Pending {
     pub kind: Kind,
@@ -45,7 +45,7 @@ pub struct Pending {
     pub bangs: u32,
 }
 
-// Where the machine stands in a formula.
+/// Where the machine stands in a formula.
 #[derive(Drop)]
 pub enum Place {
     // An operand must come, after so many `!`.
@@ -56,8 +56,8 @@ pub enum Place {
     Within(Phase, u32),
 }
 
-// What encloses the place: how many more constructs may be nested in it, the formulas that are not at their end, and of
-// the innermost its part before the last `||` and the part from there to the last `&&`.
+/// What encloses the place: how many more constructs may be nested in it, the formulas that are not at their end, and of
+/// the innermost its part before the last `||` and the part from there to the last `&&`.
 #[derive(Drop)]
 pub struct Context {
     pub room: u32,
@@ -66,7 +66,7 @@ pub struct Context {
     pub both: Option<Box<Formula>>,
 }
 
-// What was read, where a formula may go on.
+/// What was read, where a formula may go on.
 #[derive(Drop)]
 pub struct Machine {
     pub context: Context,
@@ -77,7 +77,7 @@ impl Context {
     ghost use Rattle.std.specs.Prelude.{◌≡◌, suc, ◌<◌, IfOk, MatchOption};
     ghost use Rattle.csl_syntax.specs.View.{kind_of, IsContextWithin};
 
-    // The context of a formula that begins within the one at this place, which is of the kind, after so many `!`.
+    /// The context of a formula that begins within the one at this place, which is of the kind, after so many `!`.
     pub fn with_another(self, kind: Kind, bangs: u32) -> Result<Context, AllocError>
         ensures { IfOk result (λ x. IsContextWithin self (kind_of kind) bangs x) }
     {
@@ -101,7 +101,7 @@ impl Context {
         })
     }
 
-    // The context with the room of one construct fewer, which begins; nothing where there is no room.
+    /// The context with the room of one construct fewer, which begins; nothing where there is no room.
     pub fn narrowed(self) -> Option<Context>
         ensures { MatchOption result (self.room ≡ 0) (λ x. (self.room ≡ suc x.room) × (x ≡ record self { room = x.room })) }
     {
@@ -122,7 +122,7 @@ impl Context {
         })
     }
 
-    // The context with the room of one construct more, which is at its end.
+    /// The context with the room of one construct more, which is at its end.
     pub fn freed(self) -> Context
         requires { self.room < MOST_NESTED }
         ensures room { result.room ≡ suc self.room }
@@ -148,7 +148,7 @@ impl Machine {
     ghost use Rattle.csl_syntax.specs.Machine.{start, want};
     ghost use Rattle.csl_syntax.specs.View.{state_of, in_context, IsCounted, IsFilled};
 
-    // Before the first token.
+    /// Before the first token.
     pub fn new(alloc: Global) -> Machine
         ensures state { state_of result ≡ start MOST_NESTED }
         ensures counted { IsCounted result }
@@ -161,7 +161,7 @@ impl Machine {
         })
     }
 
-    // Where an operand must come, after no `!`.
+    /// Where an operand must come, after no `!`.
     pub fn before(context: Context) -> Machine
         requires { IsFilled 0 context }
         ensures state { state_of result ≡ in_context context (λ d ls o a. want d ls o a 0) }

@@ -13,7 +13,7 @@ use crate::run::{Class, split_run};
 use crate::token::Token;
 use decimal_text::read;
 
-// What begins as a number at the head of the bytes.
+/// What begins as a number at the head of the bytes.
 pub fn first_number(bytes: &[u8]) -> Result<Front<'_>, FormulaWhat>
     requires some { 0 < length bytes.now }
     requires starts { IsTrue (is_digit_or_point (slice_index bytes.now 0)) }

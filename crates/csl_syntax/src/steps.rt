@@ -14,7 +14,7 @@ use crate::stop::Stop;
 use crate::token::Token;
 use std::alloc::Global;
 
-// The next token.
+/// The next token.
 pub fn step(alloc: Global, labels: u32, machine: Machine, token: Token) -> Result<Machine, Stop>
     requires { IsCounted machine }
     ensures gives { Goes result (step labels 1 (state_of machine) token) }
@@ -66,7 +66,7 @@ fn leaf(alloc: Global, context: Context, bangs: u32, formula: Formula) -> Result
     operand(alloc, context, bangs, boxed(alloc, formula)?)
 }
 
-// A whole operand, after so many `!`.
+/// A whole operand, after so many `!`.
 pub fn operand(
     alloc: Global,
     context: Context,

@@ -2,7 +2,7 @@
 use crate::fault::FormulaWhat;
 use std::alloc::AllocError;
 
-// A fault of the token, or want of memory.
+/// A fault of the token, or want of memory.
 #[derive(Clone, Copy)]
 pub enum Stop {
     Fails(FormulaWhat),

@@ -8,7 +8,7 @@ use crate::formula::Op;
 use crate::front::Front;
 use crate::token::Token;
 
-// The symbol at the head of the bytes, the longer one where two fit; nothing where none stands there.
+/// The symbol at the head of the bytes, the longer one where two fit; nothing where none stands there.
 pub fn first_symbol(bytes: &[u8]) -> Option<Front<'_>>
     ensures { MatchOption result (HasNoSymbol bytes.now)
         (λ front. (labels : List (List ℕ)) → BeginsWithToken labels bytes.now front.token front.rest.now) }

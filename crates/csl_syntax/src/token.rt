@@ -2,7 +2,7 @@
 use crate::formula::Op;
 use decimal_text::Decimal;
 
-// What the grammar of formulas is made of.
+/// What the grammar of formulas is made of.
 #[derive(Clone, Copy, Debug, PartialEq, Eq)]
 pub enum Token {
     Truth,

@@ -9,7 +9,7 @@ use crate::run::{Class, split_run};
 use crate::token::Token;
 use text_lines::Name;
 
-// The word at the head of the bytes.
+/// The word at the head of the bytes.
 pub fn first_word<'a>(bytes: &'a [u8], labels: &[Name]) -> Front<'a>
     requires some { 0 < length bytes.now }
     requires starts { IsTrue (begins_name (slice_index bytes.now 0)) }

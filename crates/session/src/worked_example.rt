@@ -1,8 +1,8 @@
 // A run that is worked out by hand, and proved to give these very bytes.
-ghost use Rattle.std.specs.Prelude.{◌≡◌, [], map, string_bytes, length, IfOk};
+ghost use Rattle.std.specs.Prelude.{◌≡◌, map, string_bytes, length, IfOk};
 ghost use Rattle.outside.specs.Shelf.{pairs_of};
 ghost use Rattle.session.specs.Serve.{IsMemoryOr};
-ghost use Rattle.session.specs.WorkedExample.{example_words, example_files, example_formula, example_answer};
+ghost use Rattle.session.specs.WorkedExample.{example_words, example_files, example_answer};
 
 use crate::{Status, serve_surely};
 use outside::{SureFiles, SureSink, SureSource};
