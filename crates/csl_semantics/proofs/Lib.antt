@@ -1,0 +1,6 @@
+pub mod ExactLists
+pub mod Unique
+pub mod NeverMissing
+pub mod Truths
+pub mod FormulaKinds
+pub mod WorkedLists
