@@ -1,0 +1,9 @@
+use Rattle.command_words.proofs.ReadWords.{last_word_is_no_option, no_other_word_is_read, no_value_begins_with_hyphen}
+use Rattle.command_words.proofs.laws.other_words_are_refused.Goals as goal
+
+pub returns : goal.returns
+returns c = record {
+  last_word = last_word_is_no_option;
+  hyphen = no_value_begins_with_hyphen;
+  other_word = no_other_word_is_read;
+}
