@@ -1,5 +1,5 @@
--- How the tokens are read, one after another: a state after each, with the formulas read so far. It serves the proofs alone: the definitions
--- know nothing of it.
+-- How the tokens are read, one after another: a state after each, with the formulas read so far. It serves the proofs alone: the
+-- definitions know nothing of it.
 use Rattle.std.specs.Prelude.{ℕ, zero, suc, ◌*◌, ◌^◌, Bool, true, false, nat_lt, nat_le, List, [], ◌∷◌, Option, Some, None}
 use Rattle.decimal_text.specs.DecimalNumber.{DecimalNumber}
 use Rattle.csl_syntax.specs.declared.fault.FormulaWhat.{FormulaWhat}

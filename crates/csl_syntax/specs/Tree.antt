@@ -1,6 +1,6 @@
 -- A formula as a tree of plain values, whatever the memory in which its parts lie: the continuous stochastic logic (Aziz, Sanwal, Singhal,
--- Brayton 2000; Baier, Haverkort, Hermanns, Katoen 2003) without its steady states, with bounds on rewards (Baier, Haverkort, Hermanns, Katoen
--- 2000).
+-- Brayton 2000; Baier, Haverkort, Hermanns, Katoen 2003) without its steady states, with bounds on rewards (Baier, Haverkort, Hermanns,
+-- Katoen 2000).
 use Rattle.std.specs.Prelude.{ℕ, ◌<◌, ◌≤◌, ◌*◌, ◌^◌, ⊤}
 use Rattle.decimal_text.specs.DecimalNumber.{DecimalNumber}
 use Rattle.csl_syntax.specs.declared.formula.Op.{Op}

@@ -16,7 +16,7 @@ use Rattle.ctmc_semantics.proofs.ContainsLemmas.{enclosing_contains, rounded_dow
 use Rattle.ctmc_semantics.proofs.Thresholds.{test_right, opposite_not}
 use Rattle.ctmc_semantics.proofs.VerdictLemmas.{bounded_decided, failing_not_meeting, undecided_inside}
 use Rattle.session.specs.BracketAnswer.{decided_verdict, bracket_verdict}
-use Rattle.session.specs.ExactAnswer.{IsExactNext, IsExactUntil}
+use Rattle.session.specs.ExactState.{IsExactNext, IsExactUntil}
 use Rattle.session.specs.NextAnswer.{point, next_answer}
 use Rattle.session.specs.UntilAnswer.{words_answer}
 use Rattle.session.specs.declared.report.Verdict.{Verdict}

@@ -1,12 +1,10 @@
--- How much of an answer's text is written.
-use Rattle.std.proofs.Common.{◌≡◌, ℕ, ◌+◌, ◌<◌, ◌≤◌, List, [], ◌++◌, length, take, drop, get_or, Option, refl, sym, ap, ◌∙◌, subst, append_assoc, append-nil, length-append, arith, add-one}
+-- How much of a text is written, a piece after the other.
+use Rattle.std.proofs.Common.{◌≡◌, ℕ, ◌+◌, List, [], ◌++◌, length, take, Option, refl, sym, ap, ◌∙◌, subst, append_assoc, append-nil, length-append, arith}
 use Rattle.std.proofs.Math.Seq.{take-append-add, take-length}
-use Rattle.std.proofs.lemmas.List.{take-append-le, at_drop_more, at_drop_all}
+use Rattle.std.proofs.lemmas.List.{take-append-le}
 use Rattle.std.proofs.KnownBytes.{Appends-nil, Appends-trans}
 use Rattle.std.specs.Io.KnownBytes.{Appends}
 use Rattle.outside.specs.Whole.{WritesFront}
-use Rattle.session.specs.Report.{state_line, state_lines, formula_line, horizon_line, answer_text}
-use Rattle.session.specs.declared.report.StateAnswer.{StateAnswer}
 
 -- of the text all but the rest is written
 pub record IsWrittenBefore (text rest : List ℕ) (before now : Option (List ℕ)) : Type 0 where
@@ -52,66 +50,42 @@ module _ (text : List ℕ) (a b : Option (List ℕ)) where
   pub all_written : IsWrittenBefore text [] a b → Appends a b text
   all_written w = subst (Appends a b) (sym (w.splits ∙ append-nil w.done)) w.written
 
--- the lines of the states from the i-th on are its line and the lines of the others
-pub state_lines_more : (states : List StateAnswer) (i : ℕ) (d : StateAnswer) → i < length states
-    → state_lines (i + 1) (drop i states) ≡ state_line (i + 1) (get_or states i d) ++ state_lines ((i + 1) + 1) (drop (i + 1) states)
-state_lines_more states i d l =
-    at_drop_more (state_lines (i + 1)) states i d l
-    ∙ ap (λ n. state_line (i + 1) (get_or states i d) ++ state_lines n (drop (i + 1) states)) (sym (add-one (i + 1)))
+-- ---- a piece that was put into an empty buffer
+module _ (text rest piece left : List ℕ) (a b c : Option (List ℕ)) (next : rest ≡ piece ++ left) (line items start : List ℕ)
+    (is : line ≡ items) (put : items ≡ start ++ piece) (empty : start ≡ []) (so_far : IsWrittenBefore text rest a b) where
+  here : IsWrittenBefore text (piece ++ left) a b
+  here = subst (λ r. IsWrittenBefore text r a b) next so_far
 
-pub state_lines_all : (states : List StateAnswer) (i : ℕ) → length states ≤ i → state_lines (i + 1) (drop i states) ≡ []
-state_lines_all states i l = at_drop_all (state_lines (i + 1)) states i l
+  line_is : line ≡ piece
+  line_is = is ∙ put ∙ ap (λ l. l ++ piece) empty
 
--- a line that was put into an empty buffer
-line_is : (line items start piece : List ℕ) → line ≡ items → items ≡ start ++ piece → start ≡ [] → line ≡ piece
-line_is line items start piece e f n = e ∙ f ∙ ap (λ l. l ++ piece) n
+  pub front_of_line : WritesFront line b c → WritesFront text a c
+  front_of_line p = front_of_piece text a b c piece left here (subst (λ l. WritesFront l b c) line_is p)
 
--- ---- the lines of the states
-module _ (states : List StateAnswer) (a b c : Option (List ℕ)) (line items start : List ℕ) (is : line ≡ items) (empty : start ≡ [])
-    (s : ℕ) (d : StateAnswer) (below : s < length states) (put : items ≡ start ++ state_line (s + 1) (get_or states s d))
-    (lines : IsWrittenBefore (state_lines 1 states) (state_lines (s + 1) (drop s states)) a b) where
-  next : IsWrittenBefore (state_lines 1 states) (state_line (s + 1) (get_or states s d) ++ state_lines ((s + 1) + 1) (drop (s + 1) states))
-      a b
-  next = subst (λ r. IsWrittenBefore (state_lines 1 states) r a b) (state_lines_more states s d below) lines
+  pub line_written : Appends b c line → IsWrittenBefore text left a c
+  line_written p = piece_written text a b c piece left here (subst (λ l. Appends b c l) line_is p)
 
-  -- a front of the next state's line is written
-  pub front_of_state : WritesFront line b c → WritesFront (state_lines 1 states) a c
-  front_of_state p =
-      front_of_piece (state_lines 1 states) a b c (state_line (s + 1) (get_or states s d))
-      (state_lines ((s + 1) + 1) (drop (s + 1) states)) next
-      (subst (λ l. WritesFront l b c) (line_is line items start (state_line (s + 1) (get_or states s d)) is put empty) p)
+-- ---- pieces that were written one after another
+module _ (first second : List ℕ) (a b : Option (List ℕ)) where
+  -- a front of the first is a front of both
+  pub front_of_first : WritesFront first a b → WritesFront (first ++ second) a b
+  front_of_first p =
+      front_of_piece (first ++ second) a a b first second (record { done = []; splits = refl; written = Appends-nil a }) p
 
-  -- the next state's line is written
-  pub state_written : Appends b c line → IsWrittenBefore (state_lines 1 states) (state_lines ((s + 1) + 1) (drop (s + 1) states)) a c
-  state_written p =
-      piece_written (state_lines 1 states) a b c (state_line (s + 1) (get_or states s d)) (state_lines ((s + 1) + 1) (drop (s + 1) states))
-      next
-      (subst (λ l. Appends b c l) (line_is line items start (state_line (s + 1) (get_or states s d)) is put empty) p)
+  -- after the first, a front of the second
+  pub front_of_second : (c : Option (List ℕ)) → Appends a b first → WritesFront second b c → WritesFront (first ++ second) a c
+  front_of_second c p q =
+      front_of_piece (first ++ second) a b c second []
+      (record { done = first; splits = ap (λ l. first ++ l) (sym (append-nil second)); written = p }) q
 
--- ---- the three parts of an answer
-module _ (formula : List ℕ) (horizon : Option ℕ) (states : List StateAnswer) (a b : Option (List ℕ)) where
-  -- a front of the formula's line is written
-  pub front_of_formula : WritesFront (formula_line formula) a b → WritesFront (answer_text formula horizon states) a b
-  front_of_formula p =
-      front_of_piece (answer_text formula horizon states) a a b (formula_line formula) (horizon_line horizon ++ state_lines 1 states)
-      (record { done = []; splits = refl; written = Appends-nil a }) p
+-- ---- equal things have equal texts
+module _ {X : Type 0} (text : X → List ℕ) (x y : X) (same : x ≡ y) (a b : Option (List ℕ)) where
+  pub front_same : WritesFront (text x) a b → WritesFront (text y) a b
+  front_same p = subst (λ z. WritesFront (text z) a b) same p
 
-  after_formula : Appends a b (formula_line formula)
-      → IsWrittenBefore (answer_text formula horizon states) (horizon_line horizon ++ state_lines 1 states) a b
-  after_formula p = record { done = formula_line formula; splits = refl; written = p }
+  pub appends_same : Appends a b (text x) → Appends a b (text y)
+  appends_same p = subst (λ z. Appends a b (text z)) same p
 
-  -- the formula's line is written, and a front of the horizon's
-  pub front_of_horizon : (c : Option (List ℕ)) → Appends a b (formula_line formula) → WritesFront (horizon_line horizon) b c
-      → WritesFront (answer_text formula horizon states) a c
-  front_of_horizon c p q =
-      front_of_piece (answer_text formula horizon states) a b c (horizon_line horizon) (state_lines 1 states) (after_formula p) q
-
-  module _ (c d : Option (List ℕ)) (p : Appends a b (formula_line formula)) (q : Appends b c (horizon_line horizon)) where
-    after_horizon : IsWrittenBefore (answer_text formula horizon states) (state_lines 1 states ++ []) a c
-    after_horizon =
-        subst (λ r. IsWrittenBefore (answer_text formula horizon states) r a c) (sym (append-nil (state_lines 1 states)))
-        (piece_written (answer_text formula horizon states) a b c (horizon_line horizon) (state_lines 1 states) (after_formula p) q)
-
-    -- both are written, and a front of the states' lines
-    pub front_of_states : WritesFront (state_lines 1 states) c d → WritesFront (answer_text formula horizon states) a d
-    front_of_states r = front_of_piece (answer_text formula horizon states) a c d (state_lines 1 states) [] after_horizon r
+-- before anything is written
+pub nothing_written : (text : List ℕ) (a : Option (List ℕ)) → WritesFront text a a
+nothing_written text a = record { count = 0; within = omega arith; written = Appends-nil a }

@@ -67,7 +67,8 @@ module _ (rounding : Rounding) (last n : ℕ) (weights : List ℕ) (table : List
       (terms_le rounding k weights (column table s) (λ j m. small j (omega arith)) (λ j m. is.at_most_one j s (omega arith) inside))
 
 -- a vector that is lent whole as a slice holds what the slice has at the end
-written : (len : ℕ) (new old : List ℕ) → length old ≡ len → length new ≡ len → take len (new ++ drop (length new) old) ≡ new
+pub written : {X : Type 0} (len : ℕ) (new old : List X) → length old ≡ len → length new ≡ len
+    → take len (new ++ drop (length new) old) ≡ new
 written len new old e f = rw (← f) (take-append_seam new (drop (length new) old))
 
 module _ (rounding : Rounding) where

@@ -7,7 +7,7 @@ use Rattle.text_lines.specs.declared.fault.FileWhat.{FileWhat}
 use Rattle.text_lines.specs.declared.fault.FileWhat.TheVariants.{TooBig}
 use Rattle.text_lines.proofs.FileReadings as reading
 use Rattle.text_lines.proofs.FileReadings.{HasReading}
-use Rattle.session.specs.Outcome.{TakesText, IsFaulty}
+use Rattle.session.specs.ModelFiles.{TakesText, IsFaulty}
 
 some_same : (a b : List ℕ) → Some a ≡ Some b → a ≡ b
 some_same a b e = cc

@@ -24,13 +24,11 @@ use Rattle.step_core.specs.declared.bracket.Bracket.{Bracket}
 use Rattle.session.specs.MixColumns.{column_mixes, AreMixesOf}
 use Rattle.session.specs.UntilAnswer.{state_words, words_answer, first_answers, until_answers, mix_at, settled_words, settled_answers}
 use Rattle.session.proofs.Mixes.{mix_read}
-use Rattle.session.specs.ExactAnswer.{until_bits}
-use Rattle.ctmc_semantics.specs.Sets.{every_state}
 use Rattle.session.specs.UntilPlan.{IsUntilPlan}
 use Rattle.session.proofs.SameTables.{low_of_rows, high_of_rows}
 
-module _ (chain : Chain) (load : Fraction) (goal : ℕ → Bool) (plan : PlanLists) (tables : TableLists)
-    (is : IsUntilPlan chain load goal plan) (of_plan : AreTablesOf plan tables) (s : ℕ) (inside : s < chain.states) where
+module _ (chain : Chain) (load : Fraction) (bits : ℕ) (live goal : ℕ → Bool) (plan : PlanLists) (tables : TableLists)
+    (is : IsUntilPlan chain load bits live goal plan) (of_plan : AreTablesOf plan tables) (s : ℕ) (inside : s < chain.states) where
   some_rate : 0 < uniform_rate chain
   some_rate = omega arith
 
@@ -50,39 +48,39 @@ module _ (chain : Chain) (load : Fraction) (goal : ℕ → Bool) (plan : PlanLis
       ∙ ap (λ z. cond z one_word 0) (is.goal_may t (below t l))
 
   low_word : (k : ℕ) → k ≤ plan.layers
-      → slice_index (layer_at tables.low k) s ≡ low_table (rows_of (uniformised chain)) every_state goal k s
+      → slice_index (layer_at tables.low k) s ≡ low_table (rows_of (uniformised chain)) live goal k s
   low_word k l =
       (of_plan.low.layer k l).words s here
-      ∙ low_of_rows (frame_rows plan.frame.rows) (uniformised chain) is.rows some_rate (holds_at plan.frame.sets.live_must) every_state
+      ∙ low_of_rows (frame_rows plan.frame.rows) (uniformised chain) is.rows some_rate (holds_at plan.frame.sets.live_must) live
       (holds_at plan.frame.sets.goal_must) goal (λ t m. is.live_must t (below t m)) (λ t m. is.goal_must t (below t m)) k s here
 
   high_word : (k : ℕ) → k ≤ plan.layers → slice_index (layer_at tables.high k) s
-      ≡ high_table (rows_of (uniformised chain)) every_state goal (set_words goal) k s
+      ≡ high_table (rows_of (uniformised chain)) live goal (set_words goal) k s
   high_word k l =
       (of_plan.high.layer k l).words s here
-      ∙ high_of_rows (frame_rows plan.frame.rows) (uniformised chain) is.rows some_rate (holds_at plan.frame.sets.live_may) every_state
+      ∙ high_of_rows (frame_rows plan.frame.rows) (uniformised chain) is.rows some_rate (holds_at plan.frame.sets.live_may) live
       (holds_at plan.frame.sets.goal_may) goal (λ t m. is.live_may t (below t m)) (λ t m. is.goal_may t (below t m))
       (slice_index plan.start_upper) (set_words goal) start_is k s here
 
   lower_mix : mix_low plan.layers (slice_index is.weights.low) (slice_index is.weights.high) (λ k. slice_index (layer_at tables.low k) s)
-      ≡ (until_words (rows_of (uniformised chain)) load until_bits (known_exactly every_state goal) s).lower
+      ≡ (until_words (rows_of (uniformised chain)) load bits (known_exactly live goal) s).lower
   lower_mix =
       mix_low_reads plan.layers (slice_index is.weights.low) (slice_index is.weights.high) (λ k. slice_index (layer_at tables.low k) s)
-      (low_weight load) (high_weight load) (λ k. low_table (rows_of (uniformised chain)) every_state goal k s)
+      (low_weight load) (high_weight load) (λ k. low_table (rows_of (uniformised chain)) live goal k s)
       is.fits.weights_of.low is.fits.weights_of.high low_word
-      ∙ ap (λ n. mix_low n (low_weight load) (high_weight load) (λ k. low_table (rows_of (uniformised chain)) every_state goal k s))
+      ∙ ap (λ n. mix_low n (low_weight load) (high_weight load) (λ k. low_table (rows_of (uniformised chain)) live goal k s))
       is.fits.last_layer
 
-  upper_mix : mix_high plan.layers until_bits (slice_index is.weights.low) (slice_index is.weights.high)
+  upper_mix : mix_high plan.layers bits (slice_index is.weights.low) (slice_index is.weights.high)
       (λ k. slice_index (layer_at tables.high k) s)
-      ≡ (until_words (rows_of (uniformised chain)) load until_bits (known_exactly every_state goal) s).upper
+      ≡ (until_words (rows_of (uniformised chain)) load bits (known_exactly live goal) s).upper
   upper_mix =
-      mix_high_reads plan.layers until_bits (slice_index is.weights.low) (slice_index is.weights.high)
+      mix_high_reads plan.layers bits (slice_index is.weights.low) (slice_index is.weights.high)
       (λ k. slice_index (layer_at tables.high k) s)
-      (low_weight load) (high_weight load) (λ k. high_table (rows_of (uniformised chain)) every_state goal (set_words goal) k s)
+      (low_weight load) (high_weight load) (λ k. high_table (rows_of (uniformised chain)) live goal (set_words goal) k s)
       is.fits.weights_of.low is.fits.weights_of.high high_word
-      ∙ ap (λ n. mix_high n until_bits (low_weight load) (high_weight load)
-      (λ k. high_table (rows_of (uniformised chain)) every_state goal (set_words goal) k s)) is.fits.last_layer
+      ∙ ap (λ n. mix_high n bits (low_weight load) (high_weight load)
+      (λ k. high_table (rows_of (uniformised chain)) live goal (set_words goal) k s)) is.fits.last_layer
 
   same_weights : (weights other : WeightLists) (m n : ℕ) → Poisson weights m ≡ Poisson other n → weights ≡ other
   same_weights weights other m n e = cc
@@ -90,23 +88,23 @@ module _ (chain : Chain) (load : Fraction) (goal : ℕ → Bool) (plan : PlanLis
   same_bits : (weights other : WeightLists) (m n : ℕ) → Poisson weights m ≡ Poisson other n → m ≡ n
   same_bits weights other m n e = cc
 
-  pub words_are : (weights : WeightLists) (bits : ℕ) → plan.mix ≡ Poisson weights bits → (b : Bracket)
-      → b ≡ column_mixes plan.layers bits weights tables s
-      → settle (goal s) true (record { lower = b.lower; upper = b.upper }) ≡ state_words chain load goal s
-  words_are weights bits mix b e =
-      let weights_are : weights ≡ is.weights = same_weights weights is.weights bits until_bits (sym mix ∙ is.is_mix) in
-      let bits_are : bits ≡ until_bits = same_bits weights is.weights bits until_bits (sym mix ∙ is.is_mix) in
-      let mixed : b ≡ column_mixes plan.layers until_bits is.weights tables s =
-      e ∙ ap (λ w. column_mixes plan.layers bits w tables s) weights_are ∙ ap (λ n. column_mixes plan.layers n is.weights tables s)
+  pub words_are : (weights : WeightLists) (counted : ℕ) → plan.mix ≡ Poisson weights counted → (b : Bracket)
+      → b ≡ column_mixes plan.layers counted weights tables s
+      → settle (goal s) true (record { lower = b.lower; upper = b.upper }) ≡ state_words chain load bits live goal s
+  words_are weights counted mix b e =
+      let weights_are : weights ≡ is.weights = same_weights weights is.weights counted bits (sym mix ∙ is.is_mix) in
+      let bits_are : counted ≡ bits = same_bits weights is.weights counted bits (sym mix ∙ is.is_mix) in
+      let mixed : b ≡ column_mixes plan.layers bits is.weights tables s =
+      e ∙ ap (λ w. column_mixes plan.layers counted w tables s) weights_are ∙ ap (λ n. column_mixes plan.layers n is.weights tables s)
       bits_are in
       ap (λ l. settle (goal s) true (record { lower = l; upper = b.upper })) (ap (λ m. m.lower) mixed ∙ lower_mix)
       ∙ ap (λ u. settle (goal s) true
-      (record { lower = (until_words (rows_of (uniformised chain)) load until_bits (known_exactly every_state goal) s).lower; upper = u }))
+      (record { lower = (until_words (rows_of (uniformised chain)) load bits (known_exactly live goal) s).lower; upper = u }))
       (ap (λ m. m.upper) mixed ∙ upper_mix)
 
 -- ---- the answers from the plan's goal and its mixes are those of the until
-module _ (chain : Chain) (load : Fraction) (goal : ℕ → Bool) (plan : PlanLists) (is : IsUntilPlan chain load goal plan)
-    (mixes : List Bracket) (are : AreMixesOf plan mixes) where
+module _ (chain : Chain) (load : Fraction) (bits : ℕ) (live goal : ℕ → Bool) (plan : PlanLists)
+    (is : IsUntilPlan chain load bits live goal plan) (mixes : List Bracket) (are : AreMixesOf plan mixes) where
   abbrev goals : List Bool
   goals = plan.frame.sets.goal_must
 
@@ -116,19 +114,20 @@ module _ (chain : Chain) (load : Fraction) (goal : ℕ → Bool) (plan : PlanLis
   goals_counted : length goals ≡ chain.states
   goals_counted = is.sound.frame.sets.goal_must_states ∙ rows_counted
 
-  same_words : (s : ℕ) → s < chain.states → settled_words goals mixes s ≡ state_words chain load goal s
+  same_words : (s : ℕ) → s < chain.states → settled_words goals mixes s ≡ state_words chain load bits live goal s
   same_words s inside =
       ap (λ g. settle g true (mix_at mixes s)) (is.goal_must s inside)
-      ∙ words_are chain load goal plan are.tables is are.of_plan s inside are.weights are.bits are.is_mix _
+      ∙ words_are chain load bits live goal plan are.tables is are.of_plan s inside are.weights are.bits are.is_mix _
       (mix_read plan.layers are.bits (length plan.frame.rows) are.weights are.tables mixes are.are s _
       (omega (arith, inside, rows_counted)))
 
-  pub settled_answers_are : (by : Comparison) (q : Fraction) → settled_answers goals mixes by q ≡ until_answers chain load goal by q
+  pub settled_answers_are : (by : Comparison) (q : Fraction)
+      → settled_answers goals mixes by q ≡ until_answers chain load bits live goal by q
   settled_answers_are by q =
-      let some_answer = words_answer by (state_words chain load goal 0) q in
+      let some_answer = words_answer by (state_words chain load bits live goal 0) q in
       ap (first_answers (settled_words goals mixes) by q) goals_counted
-      ∙ fill_by_all (λ s. words_answer by (state_words chain load goal s) q) (first_answers (settled_words goals mixes) by q chain.states)
-      chain.states
+      ∙ fill_by_all (λ s. words_answer by (state_words chain load bits live goal s) q)
+      (first_answers (settled_words goals mixes) by q chain.states) chain.states
       some_answer (length-map-range_with_len (λ s. words_answer by (settled_words goals mixes s) q) 0 chain.states)
       (λ s inside.
       get_or-map-range_with_len (λ t. words_answer by (settled_words goals mixes t) q) 0 chain.states s s some_answer inside (omega arith)

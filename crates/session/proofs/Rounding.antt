@@ -9,7 +9,7 @@ use Rattle.ctmc_semantics.specs.Fraction.{Fraction, fraction}
 use Rattle.ctmc_semantics.specs.Next.{next_probability, rate_into}
 use Rattle.ctmc_semantics.specs.Threshold.{Comparison}
 use Rattle.session.specs.NextAnswer.{next_answer, first_answers}
-use Rattle.session.specs.declared.report.StateAnswer.{StateAnswer}
+use Rattle.session.specs.declared.state_answer.StateAnswer.{StateAnswer}
 
 -- of at most the whole, each part in units is at most all units
 module _ (unit num den : ℕ) (positive : 0 < den) (within : num ≤ den) where

@@ -1,12 +1,13 @@
 -- The worked example's input has the outcome that is worked out.
-use Rattle.std.proofs.Common.{◌≡◌, ℕ, zero, suc, ◌+◌, ◌^◌, ◌==◌, ◌<◌, Bool, true, false, if◌then◌else◌, List, [], ◌∷◌, length, slice_index_or, Some, None, IsTrue, ◌↔◌, refl, ap, ◌∙◌, inr, arith, All, Contains}
+use Rattle.std.proofs.Common.{◌≡◌, ℕ, zero, suc, ◌+◌, ◌^◌, ◌==◌, ◌<◌, Bool, true, false, if◌then◌else◌, List, [], ◌∷◌, length, slice_index_or, Some, None, IsTrue, ◌↔◌, refl, ap, ◌∙◌, arith, subst, sym, All, Contains}
 use Rattle.std.proofs.lemmas.Bool.{false≢true}
 use Rattle.std.specs.Prelude.{codes}
 use Rattle.std.specs.Fmt.{digits}
+use Rattle.std.specs.List.{AllZip}
 use Rattle.decimal_text.specs.Scale.{greatest_decimals}
 use Rattle.model_core.specs.Transitions.{exit_sum}
 use Rattle.model_core.specs.declared.limits.TheConstants.{AMOUNT_LIMIT}
-use Rattle.decimal_text.specs.DecimalNumber.{DecimalNumber, IsShortDecimal}
+use Rattle.decimal_text.specs.DecimalNumber.{IsShortDecimal}
 use Rattle.decimal_text.specs.DecimalWord.{IsDecimalWord}
 use Rattle.decimal_text.proofs.CanonicalTexts.{text_stands}
 use Rattle.model_core.specs.Files.{TraLists, LabLists}
@@ -15,20 +16,40 @@ use Rattle.lab_reader.specs.Declarations.{IsClosing}
 use Rattle.lab_reader.specs.LabelLines.{BeginsWithNumber, GivesLabel, IsSomeLabelLine}
 use Rattle.lab_reader.specs.LabText.{LabSays}
 use Rattle.model_core.specs.Model.{has_label}
-use Rattle.text_lines.specs.Name.{is_name}
+use Rattle.text_lines.specs.Name.{continues_name, is_name}
 use Rattle.text_lines.specs.LinesOf.{line_bytes}
 use Rattle.text_lines.specs.WordsOf.{words_from}
 use Rattle.text_lines.specs.WholeNumber.{IsWholeNumber, whole_value}
 use Rattle.text_lines.specs.WordLines.{WordLine, word_lines_of}
 use Rattle.model_core.specs.Model.{LabelledChain, files_chain}
-use Rattle.session.specs.FormulaAnswer.{formula_states}
-use Rattle.session.specs.Outcome.{Outcome, Answered, IsOutcome, TakesFormula, outcome_text}
-use Rattle.session.specs.PlainFormula.{formula_text}
-use Rattle.csl_syntax.specs.declared.formula.Op.TheVariants.{AtLeast}
-use Rattle.session.specs.declared.plain_formula.PlainFormula.{PlainFormula}
-use Rattle.session.specs.declared.plain_formula.PlainFormula.TheVariants.{Next}
-use Rattle.session.specs.declared.report.StateAnswer.{StateAnswer}
-use Rattle.session.specs.WorkedExample.{example_words, example_tra, example_lab, example_files, example_formula, example_answer}
+use Rattle.command_words.specs.Command.{Spoken}
+use Rattle.command_words.specs.Parts.{no_word, plain_word, plain}
+use Rattle.command_words.specs.Words.{WordsSay}
+use Rattle.command_words.specs.declared.command.Kind.TheVariants.{Ctmc}
+use Rattle.command_words.proofs.Defaults.{default_options, default_is_chosen}
+use Rattle.command_words.proofs.OneCommand.{one_command}
+use Rattle.csl_semantics.specs.WorkedMeanings.{half, one, next_a}
+use Rattle.csl_syntax.specs.FormulaFault.{FormulaFaultAt}
+use Rattle.csl_syntax.specs.FormulaText.{FormulaSays, line_limits}
+use Rattle.csl_syntax.specs.Grammar.{Spells, a_truth, a_name, a_next, an_atom, a_unary, a_conj}
+use Rattle.csl_syntax.specs.Laws.{AreLabels}
+use Rattle.csl_syntax.specs.Scanner.{EndsRun}
+use Rattle.csl_syntax.specs.Tokens.{HasTokens, no_more}
+use Rattle.csl_syntax.specs.Tree.{truth, label}
+use Rattle.csl_syntax.specs.declared.fault.FormulaWhat.TheVariants.{UnknownLabel}
+use Rattle.csl_syntax.specs.declared.token.Token.TheVariants.{Truth}
+use Rattle.csl_syntax.proofs.CanonicalReads.{formula_reads}
+use Rattle.csl_syntax.proofs.CanonicalTokens.{spelling}
+use Rattle.csl_syntax.proofs.LongestTokens.{word_before}
+use Rattle.csl_syntax.proofs.Runs.{nothing_first}
+use Rattle.session.specs.FormulaLines.{formula_lines}
+use Rattle.session.specs.Laws.{AreNamed}
+use Rattle.session.specs.LineReply.{LineReply, Faulty, NumberedReply, IsLineReply, IsReplyTo, AreReplies, formula_reply}
+use Rattle.session.specs.Outcome.{Outcome, Replies, IsOutcome, outcome_text, outcome_status}
+use Rattle.session.specs.Serve.{AreThere}
+use Rattle.session.specs.WorkedExample.{example_words, example_tra, example_lab, example_files, example_formulas, example_answer}
+use Rattle.session.specs.declared.status.Status.TheVariants.{Refused}
+use Rattle.session.proofs.LineReplies.{is_line_reply}
 
 -- ---- the chain
 abbrev pub tra : TraLists
@@ -53,12 +74,6 @@ one_whole = record { digits = (omega arith, (omega arith, record {})); value = r
 two_whole : IsWholeNumber (codes "2") 2
 two_whole = record { digits = (omega arith, (omega arith, record {})); value = refl }
 
-abbrev one : DecimalNumber
-one = record { c = 1; x = 0 }
-
-abbrev half : DecimalNumber
-half = record { c = 5; x = 1 }
-
 one_short : IsShortDecimal one
 one_short = record { below = omega arith; decimals = omega arith; normal = λ pos. absurd (omega arith) }
 
@@ -68,10 +83,6 @@ half_short = record { below = omega arith; decimals = omega arith; normal = λ p
 one_decimal : IsDecimalWord (codes "1") one
 unfolding digits
 one_decimal = record { stands = text_stands one one_short; short = one_short }
-
-half_decimal : IsDecimalWord (codes "0.5") half
-unfolding digits
-half_decimal = record { stands = text_stands half half_short; short = half_short }
 
 one_at_most : (out : Bool) → 0 + (if out then 1 else 0) < AMOUNT_LIMIT
 one_at_most true = omega arith
@@ -214,45 +225,116 @@ says_lab = record {
   };
 }
 
--- ---- the formula, and its outcome
+-- ---- the command
+abbrev pub command : Spoken
+command = record { kind = Ctmc; tra = codes "M.tra"; lab = codes "M.lab"; rew = None; options = default_options }
+
+says_command : WordsSay example_words command
+says_command = record {
+  parts = plain (codes "ctmc") ∷ plain (codes "M.tra") ∷ plain (codes "M.lab") ∷ [];
+  read = plain_word refl (plain_word refl (plain_word refl no_word));
+  model = refl;
+  rewards = refl;
+  options = default_is_chosen;
+}
+
+pub are_named : AreNamed example_words example_files
+are_named other said =
+    subst (λ c. AreThere c example_files) (one_command example_words command other says_command said)
+    (record { tra = refl; lab = refl; rew = tt })
+
+-- ---- the line that is answered
 abbrev over : LabelledChain
 over = files_chain tra lab
 
-abbrev formula : PlainFormula
-formula = Next AtLeast half
+abbrev first_line : List ℕ
+first_line = codes "P{>=0.5}[X a]"
 
-abbrev states : List StateAnswer
-states = formula_states over 0 formula
+are_labels : AreLabels lab.names
+unfolding says_lab
+are_labels = record { each = says_lab.declares.begins.names.each; distinct = says_lab.declares.begins.names.distinct }
+
+spells_next : Spells (line_limits lab.names) (spelling next_a []) next_a
+spells_next = a_conj (a_unary (an_atom (a_next (omega arith) (a_conj (a_unary (an_atom (a_name (omega arith))))))))
+
+nothing_follows : EndsRun continues_name []
+nothing_follows b more e = absurd (nothing_first b more e)
+
+has_next : HasTokens lab.names first_line (spelling next_a []) []
+unfolding digits
+has_next =
+    formula_reads lab.names are_labels next_a (omega arith, omega arith) (half_short, tt) [] [] nothing_follows no_more
+
+says_next : FormulaSays first_line lab.names next_a
+says_next = record { short = omega arith; tokens = spelling next_a []; has = has_next; spells = spells_next }
+
+abbrev first_reply : LineReply
+first_reply = formula_reply over default_options next_a
+
+is_first_reply : IsLineReply over default_options first_line first_reply
+is_first_reply = is_line_reply over default_options first_line first_reply (record { formula = next_a; says = says_next; is = refl })
+
+-- ---- the line that is refused
+is_unknown : FormulaFaultAt (codes "b") lab.names 1 UnknownLabel
+is_unknown = record {
+  short = omega arith;
+  before = [];
+  rest = codes "b";
+  has = no_more;
+  pass = (Truth ∷ [], truth, a_conj (a_unary (an_atom a_truth)));
+  here = refl;
+  fails = record {
+    place = 1;
+    more = [];
+    next = record {
+      text = codes "b";
+      longest = word_before (codes "b") (codes "b") [] refl refl nothing_follows;
+      writes = (refl, refl);
+    };
+    expected = (record { labels = 2; threshold = 1; nested = 0 }, ([], label 1, a_conj (a_unary (an_atom (a_name (omega arith))))));
+    unknown = omega arith;
+  };
+}
+
+-- ---- the outcome
+abbrev replies : List NumberedReply
+replies =
+    record { number = 1; reply = first_reply }
+    ∷ record { number = 2; reply = Faulty (record { column = 1; what = UnknownLabel }) } ∷ []
 
 abbrev pub outcome : Outcome
-outcome = Answered (formula_text (codes "a") formula) None states
+outcome = Replies replies
 
-takes_formula : TakesFormula lab.names (Some example_formula) (Some []) 0 formula
-takes_formula = record {
-  bytes = example_formula;
-  taken = refl;
-  within = omega arith;
-  end = refl;
-  declared = omega arith;
-  plain = record {
-    threshold_word = codes "0.5";
-    is_threshold = record { decimal = half_decimal; at_most_one = omega arith };
-    text = inr refl;
-  };
-}
+two_lines : formula_lines example_formulas ≡ record { number = 1; bytes = first_line } ∷ record { number = 2; bytes = codes "b" } ∷ []
+unfolding words_from line_bytes
+two_lines = refl
 
-pub is_outcome : IsOutcome example_words (Some example_files) (Some example_formula) (Some []) outcome
+are_replies : AreReplies over default_options example_formulas replies
+are_replies =
+    subst (λ lines. AllZip (IsReplyTo over default_options) lines replies) (sym two_lines)
+    (record { number = refl; reply = is_first_reply }, (record { number = refl; reply = is_unknown }, tt))
+
+pub is_outcome : IsOutcome example_words (Some example_files) (Some example_formulas) (Some []) outcome
 is_outcome = record {
-  model = record {
-    tra = tra;
-    lab = lab;
-    rew = None;
-    takes_tra = record { bytes = example_tra; is_file = refl; within = omega arith; is_so = says_tra };
-    takes_lab = record { bytes = example_lab; is_file = refl; within = omega arith; is_so = says_lab };
-    takes_rew = record {};
+  command = Some command;
+  said = says_command;
+  holds = record {
+    model = record {
+      tra = tra;
+      lab = lab;
+      rew = None;
+      takes_tra = record { bytes = example_tra; is_file = refl; within = omega arith; is_so = says_tra };
+      has_state = omega arith;
+      takes_lab = record { bytes = example_lab; is_file = refl; within = omega arith; is_so = says_lab };
+      takes_rew = tt;
+    };
+    input = record { bytes = example_formulas; taken = refl; within = omega arith; end = refl };
+    are = are_replies;
   };
-  answers = record { label = 0; formula = formula; takes = takes_formula; is_text = refl; are_states = refl };
 }
+
+pub status_is : outcome_status outcome ≡ Refused
+status_is = refl
 
 pub text_is : outcome_text outcome ≡ example_answer
 unfolding digits

@@ -7,7 +7,7 @@ use Rattle.ctmc_semantics.specs.Threshold.{Comparison, opposite}
 use Rattle.ctmc_semantics.specs.Units.{units_down, units_up}
 use Rattle.ctmc_semantics.specs.Verdict.{last_to_meet}
 use Rattle.session.specs.declared.report.Printed.{Printed}
-use Rattle.session.specs.declared.report.StateAnswer.{StateAnswer}
+use Rattle.session.specs.declared.state_answer.StateAnswer.{StateAnswer}
 use Rattle.session.specs.declared.report.Verdict.{Verdict}
 use Rattle.session.specs.declared.report.Verdict.TheVariants.{Satisfied, Refuted, Undecided}
 

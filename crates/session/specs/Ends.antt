@@ -2,7 +2,7 @@
 use Rattle.std.specs.Prelude.{◌<◌, ◌≤◌, ◌^◌}
 use Rattle.ctmc_semantics.specs.Bracket.{Bracket}
 use Rattle.ctmc_semantics.specs.Fraction.{fraction}
-use Rattle.session.specs.declared.nested_verdict.Ends.{Ends}
+use Rattle.session.specs.declared.state_answer.Ends.{Ends}
 
 -- the bracket that has these ends
 abbrev pub ends_bracket : Ends → Bracket

@@ -1,75 +1,84 @@
--- When the answer at a state is exact: what a reader may rely on, whatever was computed.
-use Rattle.std.specs.Prelude.{◌≡◌, ℕ, ◌+◌, ◌≤◌, ◌↔◌, Bool, Option, Some, None}
-use Rattle.ctmc_semantics.specs.Bracket.{printed_bracket, ContainsProbability, ContainsFrom}
-use Rattle.ctmc_semantics.specs.Chain.{Chain}
+-- When the answer to a formula is exact: what a reader may rely on, whatever was computed.
+use Rattle.std.specs.Prelude.{◌≡◌, ◌≢◌, ℕ, ◌<◌, Bool, not, IsTrue, List, [], ◌∷◌, ◌++◌, length, All, AllPairs, Some, None, slice_get, IsSomeAnd, ⊤}
+use Rattle.ctmc_semantics.specs.Bracket.{Bracket, printed_bracket, ContainsFrom, Encloses}
 use Rattle.ctmc_semantics.specs.Fraction.{Fraction, decimal_fraction}
-use Rattle.ctmc_semantics.specs.Horizon.{horizon, greatest_width}
+use Rattle.ctmc_semantics.specs.Horizon.{horizon}
 use Rattle.ctmc_semantics.specs.Next.{next_probability}
-use Rattle.ctmc_semantics.specs.Poisson.{until_average}
-use Rattle.ctmc_semantics.specs.RoundedOut.{IsRoundedDown, IsRoundedUp, IsRoundedOut}
-use Rattle.ctmc_semantics.specs.Sets.{every_state}
-use Rattle.ctmc_semantics.specs.Threshold.{Comparison, MeetsThreshold}
-use Rattle.ctmc_semantics.specs.Uniformised.{time_load, uniformised}
-use Rattle.ctmc_semantics.specs.Value.{ValueMeets, ValueFails}
-use Rattle.ctmc_semantics.specs.Verdict.{BracketSatisfies, BracketRefutes}
-use Rattle.ctmc_semantics.specs.WordBracket.{WordBracket, word_bracket}
-use Rattle.decimal_text.specs.DecimalNumber.{DecimalNumber}
+use Rattle.ctmc_semantics.specs.Sets.{holds_at}
+use Rattle.command_words.specs.declared.command.Options.{Options}
+use Rattle.csl_semantics.specs.Meaning.{IsSat, comparison_of, load_of, time_values}
+use Rattle.csl_syntax.specs.Tree.{Tree, next, until}
+use Rattle.csl_syntax.specs.declared.formula.Bound.TheVariants.{Unbounded, Time, Reward}
 use Rattle.model_core.specs.Model.{LabelledChain}
-use Rattle.session.specs.PlainFormula.{comparison_of}
-use Rattle.session.specs.declared.plain_formula.PlainFormula.{PlainFormula}
-use Rattle.session.specs.declared.plain_formula.PlainFormula.TheVariants.{Next, Until}
-use Rattle.session.specs.declared.report.StateAnswer.{StateAnswer}
+use Rattle.session.specs.Answer.{AnswerLists}
+use Rattle.session.specs.ExactState.{IsExactNext, IsExactUntil}
+use Rattle.session.specs.declared.state_answer.StateAnswer.{StateAnswer}
+use Rattle.session.specs.declared.report.Printed.{Printed}
+use Rattle.session.specs.declared.report.Verdict.{Verdict}
 use Rattle.session.specs.declared.report.Verdict.TheVariants.{Satisfied, Refuted, Undecided}
 
--- the answer of a next operator whose probability is p: the bracket is p rounded down and up, satisfied is said exactly where p meets the
--- threshold q by the comparison, and refuted exactly where it doesn't
-pub record IsExactNext (by : Comparison) (p q : Fraction) (answer : StateAnswer) : Type 0 where
-  pub low : IsRoundedDown p answer.bracket.low
-  pub high : IsRoundedUp p answer.bracket.high
-  pub satisfied : (answer.verdict ≡ Satisfied) ↔ MeetsThreshold by p q
-  pub refuted : (answer.verdict ≡ Refuted) ↔ (¬ MeetsThreshold by p q)
+-- the verdict at a state is so, where this is the formula's truth value there; nothing is said where it is left undecided
+abbrev pub IsSo : Bool → Verdict → Type 0
+IsSo holds Satisfied = IsTrue holds
+IsSo holds Refuted = IsTrue (not holds)
+IsSo holds Undecided = ⊤
 
--- two words of `2^-62` lie behind the answer: every average x from the horizon on lies between them, they are no wider apart than the
--- horizon makes them, the printed numbers are these words rounded down and up, and the verdict is exactly what they show of the threshold q
-pub record HasWords (by : Comparison) (last bits : ℕ) (x : ℕ → Fraction) (q : Fraction) (answer : StateAnswer) : Type 0 where
-  pub words : WordBracket
-  pub contains : ContainsFrom (word_bracket words) last x
-  pub narrow : words.upper ≤ words.lower + greatest_width last bits
-  pub printed : IsRoundedOut (word_bracket words) answer.bracket.low answer.bracket.high
-  pub satisfied : (answer.verdict ≡ Satisfied) ↔ BracketSatisfies by (word_bracket words) q
-  pub refuted : (answer.verdict ≡ Refuted) ↔ BracketRefutes by (word_bracket words) q
+-- no state is left undecided, and no bracket is shown
+pub record IsDecided (answer : AnswerLists) : Type 0 where
+  pub decided : All (λ verdict. verdict ≢ Undecided) answer.verdicts
+  pub unshown : answer.shown ≡ None
 
--- the answer of an until whose averages are x: the printed bracket contains every average from the horizon on, what is said satisfied or
--- refuted is so of the value of x, a threshold that is left undecided lies in the bracket, and no lazier answer would do
-pub record IsExactUntil (by : Comparison) (last bits : ℕ) (x : ℕ → Fraction) (q : Fraction) (answer : StateAnswer) : Type 0 where
-  pub contains : ContainsFrom (printed_bracket answer.bracket.low answer.bracket.high) last x
-  pub meets : answer.verdict ≡ Satisfied → ValueMeets by x q
-  pub fails : answer.verdict ≡ Refuted → ValueFails by x q
-  pub undecided : answer.verdict ≡ Undecided → ContainsProbability (printed_bracket answer.bracket.low answer.bracket.high) q
-  pub tight : HasWords by last bits x q answer
+-- the answer has a verdict and a bracket for each of the n states, and each is exact
+pub record AreExactAt (n : ℕ) (IsExact : ℕ → StateAnswer → Type 0) (verdicts : List Verdict) (states : List Printed) : Type 0 where
+  pub each_verdict : length verdicts ≡ n
+  pub each_bracket : length states ≡ n
+  pub exact : (s : ℕ) (verdict : Verdict) (bracket : Printed) → slice_get verdicts s ≡ Some verdict → slice_get states s ≡ Some bracket
+      → IsExact s (record { verdict = verdict; bracket = bracket })
 
--- what lies past the horizon is at most `2^-30`
-abbrev pub until_bits : ℕ
-until_bits = 30
+-- the answer to a next operator: each state's is exact, and there is no horizon and nothing watched
+pub record ShowsNext (n : ℕ) (by : _) (p : ℕ → Fraction) (q : Fraction) (answer : AnswerLists) : Type 0 where
+  pub states : List Printed
+  pub shown : answer.shown ≡ Some (record { horizon = None; watched = []; states = states })
+  pub exact : AreExactAt n (λ s. IsExactNext by (p s) q) answer.verdicts states
 
--- the probability of reaching the goal from s within the load's time, cut after any number of jumps
-abbrev pub until_of : Chain → Fraction → (ℕ → Bool) → ℕ → ℕ → Fraction
-until_of chain load goal s = until_average (uniformised chain) load every_state goal s
+abbrev pub bracket_of : Printed → Bracket
+bracket_of p = printed_bracket p.low p.high
 
--- the load of an until's time
-abbrev pub until_load : LabelledChain → DecimalNumber → Fraction
-until_load over time = time_load over.chain over.rate_decimals time.c time.x
+-- so many brackets of a state were taken, one after another: each contains the averages x from the horizon on and lies in those before, and
+-- the last of them is the printed one
+pub record AreWatched (count last : ℕ) (x : ℕ → Fraction) (printed : Printed) (watched : List Printed) : Type 0 where
+  pub counted : length watched ≡ count
+  pub contain : All (λ w. ContainsFrom (bracket_of w) last x) watched
+  pub nested : AllPairs (λ outer inner. Encloses (bracket_of outer) (bracket_of inner)) watched
+  pub printed_last : (earlier : List Printed) (w : Printed) → watched ≡ earlier ++ w ∷ [] → w ≡ printed
 
--- the number of jumps up to which an until is looked at
-abbrev pub formula_horizon : LabelledChain → PlainFormula → Option ℕ
-formula_horizon over (Next op threshold) = None
-formula_horizon over (Until op threshold time) = Some (horizon (until_load over time) until_bits)
+-- the answer to an until: its horizon is told, each state's answer is exact, and the brackets of the watched state are
+pub record ShowsUntil (n : ℕ) (options : Options) (by : _) (last : ℕ) (x : ℕ → ℕ → Fraction) (q : Fraction)
+    (answer : AnswerLists) : Type 0 where
+  pub watched : List Printed
+  pub states : List Printed
+  pub shown : answer.shown ≡ Some (record { horizon = Some last; watched = watched; states = states })
+  pub exact : AreExactAt n (λ s. IsExactUntil by last options.bits (x s) q) answer.verdicts states
+  pub watches : IsSomeAnd (slice_get states options.state)
+      (λ printed. AreWatched options.watch last (x options.state) printed watched)
 
--- the answer at a state is so by the exact meaning of the formula over the label
-abbrev pub IsExactAnswer : LabelledChain → ℕ → PlainFormula → ℕ → StateAnswer → Type 0
-IsExactAnswer over label (Next op threshold) s answer =
-    IsExactNext (comparison_of op) (next_probability over.chain (over.has label) s) (decimal_fraction threshold.c threshold.x) answer
-IsExactAnswer over label (Until op threshold time) s answer =
-    let load = until_load over time in
-    IsExactUntil (comparison_of op) (horizon load until_bits) until_bits (until_of over.chain load (over.has label) s)
-    (decimal_fraction threshold.c threshold.x) answer
+-- what is shown of the formula is exact, whatever lists stand for its operands: of a probability operator the brackets, and of other
+-- formulas nothing
+abbrev pub ShowsExactly : LabelledChain → Options → Tree → AnswerLists → Type 0
+ShowsExactly over options (next op q f) answer =
+    (ys : List Bool) → IsSat over f ys
+    → ShowsNext over.chain.states (comparison_of op) (next_probability over.chain (holds_at ys)) (decimal_fraction q.c q.x) answer
+ShowsExactly over options (until op q f (Time t) g) answer =
+    (ys zs : List Bool) → IsSat over f ys → IsSat over g zs
+    → ShowsUntil over.chain.states options (comparison_of op) (horizon (load_of over t) options.bits)
+    (time_values over t (holds_at ys) (holds_at zs)) (decimal_fraction q.c q.x) answer
+ShowsExactly over options (until op q f Unbounded g) answer = ⊥
+ShowsExactly over options (until op q f (Reward r) g) answer = ⊥
+ShowsExactly over options other answer = IsDecided answer
+
+-- the answer is exact: each state has a verdict, which is so by the meaning of the formula, and what is shown is exact
+pub record IsExactAnswer (over : LabelledChain) (options : Options) (f : Tree) (answer : AnswerLists) : Type 0 where
+  pub each_state : length answer.verdicts ≡ over.chain.states
+  pub so : (xs : List Bool) → IsSat over f xs → (s : ℕ) → s < over.chain.states
+      → IsSomeAnd (slice_get answer.verdicts s) (IsSo (holds_at xs s))
+  pub shows : ShowsExactly over options f answer

@@ -1,7 +1,7 @@
 -- The exit status of the program.
 use Rattle.std.specs.Prelude.{ℕ}
 use Rattle.session.specs.declared.status.Status.{Status}
-use Rattle.session.specs.declared.status.Status.TheVariants.{Done, Refused, Usage, Model, NotBuilt, Outside, Memory}
+use Rattle.session.specs.declared.status.Status.TheVariants.{Done, Refused, Usage, Model, Outside, Memory}
 
 abbrev pub exit_code_of : Status → ℕ
 exit_code_of Done = 0
@@ -10,4 +10,3 @@ exit_code_of Usage = 2
 exit_code_of (Model fault) = 3
 exit_code_of (Outside fault) = 4
 exit_code_of Memory = 5
-exit_code_of (NotBuilt part) = 6

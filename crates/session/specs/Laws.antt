@@ -1,13 +1,14 @@
 -- What the laws of the outcome say.
-use Rattle.std.specs.Prelude.{◌≡◌, ℕ, List, Option, Some, IfSome}
+use Rattle.std.specs.Prelude.{◌≡◌, ℕ, List, Option, Some}
+use Rattle.command_words.specs.Command.{Spoken}
+use Rattle.command_words.specs.Words.{WordsSay}
 use Rattle.outside.specs.Shelf.{Pair}
-use Rattle.session.specs.Command.{command_of}
 use Rattle.session.specs.Outcome.{Outcome, IsOutcome}
 use Rattle.session.specs.Serve.{AreThere}
 
 -- the files that the words name, if they are a command, are all among the pairs
 abbrev pub AreNamed : List (List ℕ) → List Pair → Type 0
-AreNamed words pairs = IfSome (command_of words) (λ names. AreThere names pairs)
+AreNamed words pairs = (command : Spoken) → WordsSay words command → AreThere command pairs
 
 -- an outcome of the words, the files and the formulas, and what it leaves of the formulas
 pub record SomeOutcome (words : List (List ℕ)) (pairs : List Pair) (left : List ℕ) : Type 0 where

@@ -1,9 +1,14 @@
 pub mod Command
-pub mod PlainFormula
+pub mod ModelFiles
+pub mod FormulaLines
+pub mod Answer
+pub mod ExactState
 pub mod ExactAnswer
+pub mod ExactReply
 pub mod ExitCode
 pub mod FaultText
 pub mod Report
+pub mod LineReply
 pub mod Outcome
 pub mod ReadCause
 pub mod Serve
@@ -17,6 +22,7 @@ pub mod UntilAnswer
 pub mod FormulaAnswer
 -- what the functions' own steps say
 pub mod Ends
+pub mod TruthLists
 pub mod MixColumns
 pub mod Reading
 pub mod UniformisedRow

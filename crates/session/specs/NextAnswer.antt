@@ -7,7 +7,7 @@ use Rattle.ctmc_semantics.specs.Fraction.{Fraction}
 use Rattle.ctmc_semantics.specs.Next.{next_probability}
 use Rattle.ctmc_semantics.specs.Threshold.{Comparison}
 use Rattle.session.specs.BracketAnswer.{bracket_answer}
-use Rattle.session.specs.declared.report.StateAnswer.{StateAnswer}
+use Rattle.session.specs.declared.state_answer.StateAnswer.{StateAnswer}
 
 -- the bracket that has one number alone
 abbrev pub point : Fraction → Bracket

@@ -1,24 +1,38 @@
 -- What is printed of an answer.
-use Rattle.std.specs.Prelude.{ℕ, suc, ◌^◌, ◌≤◌, ◌++◌, List, [], ◌∷◌, Option, Some, None, codes, decimal}
+use Rattle.std.specs.Prelude.{◌≡◌, ℕ, suc, ◌^◌, ◌≤◌, ◌++◌, List, [], ◌∷◌, length, All, Option, Some, None, codes, decimal}
+use Rattle.std.specs.Option.{ForSome}
 use Rattle.decimal_text.specs.Text.{text12}
 use Rattle.session.specs.declared.report.Verdict.{Verdict}
 use Rattle.session.specs.declared.report.Verdict.TheVariants.{Satisfied, Refuted, Undecided}
-use Rattle.session.specs.declared.report.StateAnswer.{StateAnswer}
+use Rattle.session.specs.Answer.{AnswerLists, ShownLists}
+use Rattle.session.specs.declared.report.Printed.{Printed}
 
 abbrev pub verdict_text : Verdict → List ℕ
 verdict_text Satisfied = codes "satisfied"
 verdict_text Refuted = codes "refuted"
 verdict_text Undecided = codes "undecided"
 
--- the line of a state, which is numbered from 1: its verdict and the ends of its bracket
-abbrev pub state_line : ℕ → StateAnswer → List ℕ
-state_line number answer =
-    decimal number ++ 32 ∷ verdict_text answer.verdict ++ 32 ∷ text12 answer.bracket.low ++ 32 ∷ text12 answer.bracket.high ++ 10 ∷ []
+-- the ends of a bracket
+abbrev pub bracket_text : Printed → List ℕ
+bracket_text bracket = text12 bracket.low ++ 32 ∷ text12 bracket.high
+
+-- the line of a state, which is numbered from 1: its verdict alone
+abbrev pub verdict_line : ℕ → Verdict → List ℕ
+verdict_line number verdict = decimal number ++ 32 ∷ verdict_text verdict ++ 10 ∷ []
+
+-- the line of a state, which is numbered from 1: its verdict and its bracket
+abbrev pub state_line : ℕ → Verdict → Printed → List ℕ
+state_line number verdict bracket = decimal number ++ 32 ∷ verdict_text verdict ++ 32 ∷ bracket_text bracket ++ 10 ∷ []
 
 -- the lines of states that follow one another, the first with this number
-abbrev pub state_lines : ℕ → List StateAnswer → List ℕ
-state_lines number [] = []
-state_lines number (answer ∷ answers) = state_line number answer ++ state_lines (suc number) answers
+abbrev pub verdict_lines : ℕ → List Verdict → List ℕ
+verdict_lines number [] = []
+verdict_lines number (verdict ∷ verdicts) = verdict_line number verdict ++ verdict_lines (suc number) verdicts
+
+abbrev pub state_lines : ℕ → List Verdict → List Printed → List ℕ
+state_lines number (verdict ∷ verdicts) (bracket ∷ brackets) =
+    state_line number verdict bracket ++ state_lines (suc number) verdicts brackets
+state_lines number verdicts brackets = []
 
 abbrev pub formula_line : List ℕ → List ℕ
 formula_line formula = codes "formula " ++ formula ++ 10 ∷ []
@@ -28,10 +42,34 @@ abbrev pub horizon_line : Option ℕ → List ℕ
 horizon_line (Some last) = codes "horizon " ++ decimal last ++ 10 ∷ []
 horizon_line None = []
 
+-- the line of a bracket of the watched state, which are numbered from 1
+abbrev pub watch_line : ℕ → Printed → List ℕ
+watch_line number bracket = codes "watch " ++ decimal number ++ 32 ∷ bracket_text bracket ++ 10 ∷ []
+
+abbrev pub watch_lines : ℕ → List Printed → List ℕ
+watch_lines number [] = []
+watch_lines number (bracket ∷ brackets) = watch_line number bracket ++ watch_lines (suc number) brackets
+
+-- the lines of the states, and of a probability operator the horizon and the watched brackets before them
+abbrev pub answer_lines : List Verdict → Option ShownLists → List ℕ
+answer_lines verdicts None = verdict_lines 1 verdicts
+answer_lines verdicts (Some shown) =
+    horizon_line shown.horizon ++ (watch_lines 1 shown.watched ++ state_lines 1 verdicts shown.states)
+
 -- the lines of an answered formula
-abbrev pub answer_text : List ℕ → Option ℕ → List StateAnswer → List ℕ
-answer_text formula horizon states = formula_line formula ++ (horizon_line horizon ++ state_lines 1 states)
+abbrev pub answer_text : List ℕ → AnswerLists → List ℕ
+answer_text formula answer = formula_line formula ++ answer_lines answer.verdicts answer.shown
 
 -- both ends are probabilities, in units of `10^-12`
-abbrev pub IsPrintable : StateAnswer → Type 0
-IsPrintable answer = (answer.bracket.low ≤ 10 ^ 12) × (answer.bracket.high ≤ 10 ^ 12)
+abbrev pub IsPrintable : Printed → Type 0
+IsPrintable bracket = (bracket.low ≤ 10 ^ 12) × (bracket.high ≤ 10 ^ 12)
+
+-- what is shown of a probability operator can be printed: it has one bracket for each of the n states
+pub record ArePrintable (n : ℕ) (shown : ShownLists) : Type 0 where
+  pub watched : All IsPrintable shown.watched
+  pub states : All IsPrintable shown.states
+  pub each_state : length shown.states ≡ n
+
+-- the answer can be printed
+abbrev pub IsWritable : AnswerLists → Type 0
+IsWritable answer = ForSome answer.shown (ArePrintable (length answer.verdicts))

@@ -4,19 +4,18 @@ use Rattle.std.specs.List.{range_with_len}
 use Rattle.ctmc_semantics.specs.Chain.{Chain}
 use Rattle.ctmc_semantics.specs.Fraction.{Fraction}
 use Rattle.ctmc_semantics.specs.Rows.{rows_of}
-use Rattle.ctmc_semantics.specs.Sets.{every_state, holds_at, known_exactly}
+use Rattle.ctmc_semantics.specs.Sets.{holds_at, known_exactly}
 use Rattle.ctmc_semantics.specs.Threshold.{Comparison}
 use Rattle.ctmc_semantics.specs.Uniformised.{uniformised}
 use Rattle.ctmc_semantics.specs.WordBracket.{WordBracket, word_bracket, settle, until_words}
 use Rattle.step_core.specs.declared.bracket.Bracket.{Bracket}
-use Rattle.session.specs.ExactAnswer.{until_bits}
 use Rattle.session.specs.BracketAnswer.{bracket_answer}
-use Rattle.session.specs.declared.report.StateAnswer.{StateAnswer}
+use Rattle.session.specs.declared.state_answer.StateAnswer.{StateAnswer}
 
 -- the bracket of a state in words: 1 at the goal, and else the mix of its columns
-abbrev pub state_words : Chain → Fraction → (ℕ → Bool) → ℕ → WordBracket
-state_words chain load goal s =
-    settle (goal s) true (until_words (rows_of (uniformised chain)) load until_bits (known_exactly every_state goal) s)
+abbrev pub state_words : Chain → Fraction → ℕ → (ℕ → Bool) → (ℕ → Bool) → ℕ → WordBracket
+state_words chain load bits live goal s =
+    settle (goal s) true (until_words (rows_of (uniformised chain)) load bits (known_exactly live goal) s)
 
 -- the answer of a state whose probability lies between the words
 abbrev pub words_answer : Comparison → WordBracket → Fraction → StateAnswer
@@ -27,8 +26,8 @@ abbrev pub first_answers : (ℕ → WordBracket) → Comparison → Fraction →
 first_answers words by q n = map (λ s. words_answer by (words s) q) (range_with_len 0 n)
 
 -- the answers at all states
-abbrev pub until_answers : Chain → Fraction → (ℕ → Bool) → Comparison → Fraction → List StateAnswer
-until_answers chain load goal by q = first_answers (state_words chain load goal) by q chain.states
+abbrev pub until_answers : Chain → Fraction → ℕ → (ℕ → Bool) → (ℕ → Bool) → Comparison → Fraction → List StateAnswer
+until_answers chain load bits live goal by q = first_answers (state_words chain load bits live goal) by q chain.states
 
 -- the mix of a state among those of all states
 abbrev pub mix_at : List Bracket → ℕ → WordBracket

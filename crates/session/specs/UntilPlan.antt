@@ -1,5 +1,5 @@
 -- When the plan of a time-bounded until is refused.
-use Rattle.std.specs.Prelude.{◌≡◌, ℕ, suc, ◌*◌, ◌<◌, ◌≤◌, ◌^◌, Bool, true, if◌then◌else◌, nat_lt, Option, Some, None}
+use Rattle.std.specs.Prelude.{◌≡◌, ℕ, suc, ◌*◌, ◌<◌, ◌≤◌, ◌^◌, Bool, if◌then◌else◌, nat_lt, Option, Some, None}
 use Rattle.ctmc_semantics.specs.Chain.{Chain}
 use Rattle.ctmc_semantics.specs.Fraction.{Fraction}
 use Rattle.ctmc_semantics.specs.Sets.{holds_at}
@@ -13,7 +13,6 @@ use Rattle.step_core.specs.PlanLoad.{FitsPoisson}
 use Rattle.step_core.specs.SoundPlan.{IsSoundPlan}
 use Rattle.step_core.specs.WeightLists.{WeightLists}
 use Rattle.step_core.specs.declared.mix.Mix.TheVariants.{Poisson}
-use Rattle.session.specs.ExactAnswer.{until_bits}
 use Rattle.poisson_tail.specs.declared.layers.TheConstants.{MOST_LAYERS}
 use Rattle.session.specs.declared.uniformise.TheConstants.{MOST_WORDS}
 use Rattle.session.specs.declared.uniformise.TimeBound.{TimeBound}
@@ -26,27 +25,31 @@ plan_refusal last states =
     if nat_lt MOST_LAYERS last then Some TooLong
     else (if nat_lt MOST_WORDS (suc last * states) then Some TooLarge else None)
 
--- jumps are looked at up to the horizon of the load, past which at most `2^-30` is left
-abbrev pub until_refusal : Chain → ℕ → DecimalNumber → Option Refusal
-until_refusal chain rate_decimals time = plan_refusal (horizon (time_load chain rate_decimals time.c time.x) until_bits) chain.states
+-- jumps are looked at up to the horizon of the load, past which at most `2^-bits` is left
+abbrev pub until_refusal : Chain → ℕ → ℕ → DecimalNumber → Option Refusal
+until_refusal chain rate_decimals bits time =
+    plan_refusal (horizon (time_load chain rate_decimals time.c time.x) bits) chain.states
 
--- what a plan needs of a time bound over the chain, beside that its horizon is the load's: no plan looks further, the weights have their
--- greatest by then, and the jumps have the uniformised chain's rate
+-- what a plan needs of a time bound over the chain: its horizon is the load's, which is none too far, the weights have their greatest by
+-- then, and the jumps have the uniformised chain's rate
 pub record IsTimeBound (chain : Chain) (bound : TimeBound) : Type 0 where
+  pub last : bound.last ≡ horizon bound.load bound.bits
+  pub some_bits : 8 ≤ bound.bits
+  pub few_bits : bound.bits ≤ 48
   pub few : bound.last ≤ MOST_LAYERS
   pub has_mode : mode bound.load ≤ bound.last
   pub uniform : bound.uniform ≡ uniform_rate chain
   pub fits : bound.uniform < 2 ^ 63
 
--- the plan is sound, and is that of reaching the goal within the load's time: its rows stand for the uniformised chain, every state is
--- live, and its weights are the load's
-pub record IsUntilPlan (chain : Chain) (load : Fraction) (goal : ℕ → Bool) (plan : PlanLists) : Type 0 where
+-- the plan is sound, and is that of reaching the goal through live states within the load's time: its rows stand for the uniformised chain,
+-- its sets are known exactly, and its weights are the load's
+pub record IsUntilPlan (chain : Chain) (load : Fraction) (bits : ℕ) (live goal : ℕ → Bool) (plan : PlanLists) : Type 0 where
   pub sound : IsSoundPlan plan
   pub rows : StandFor plan.frame.rows (uniformised chain)
   pub goal_must : (s : ℕ) → s < chain.states → holds_at plan.frame.sets.goal_must s ≡ goal s
   pub goal_may : (s : ℕ) → s < chain.states → holds_at plan.frame.sets.goal_may s ≡ goal s
-  pub live_must : (s : ℕ) → s < chain.states → holds_at plan.frame.sets.live_must s ≡ true
-  pub live_may : (s : ℕ) → s < chain.states → holds_at plan.frame.sets.live_may s ≡ true
+  pub live_must : (s : ℕ) → s < chain.states → holds_at plan.frame.sets.live_must s ≡ live s
+  pub live_may : (s : ℕ) → s < chain.states → holds_at plan.frame.sets.live_may s ≡ live s
   pub weights : WeightLists
-  pub is_mix : plan.mix ≡ Poisson weights until_bits
-  pub fits : FitsPoisson load plan.layers weights until_bits
+  pub is_mix : plan.mix ≡ Poisson weights bits
+  pub fits : FitsPoisson load plan.layers weights bits

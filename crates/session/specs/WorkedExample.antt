@@ -15,12 +15,12 @@ example_lab = codes "#DECLARATION" ++ 10 ∷ codes "a" ++ 10 ∷ codes "#END" ++
 abbrev pub example_files : List Pair
 example_files = (codes "M.tra", example_tra) ∷ (codes "M.lab", example_lab) ∷ []
 
--- from where has the next state the label with a probability of a half at least?
-abbrev pub example_formula : List ℕ
-example_formula = codes "P{>=0.5}[X a]" ++ 10 ∷ []
+-- from where has the next state the label with a probability of a half at least? And a line with a name that isn't a label's
+abbrev pub example_formulas : List ℕ
+example_formulas = codes "P{>=0.5}[X a]" ++ 10 ∷ codes "b" ++ 10 ∷ []
 
 -- from the first state surely; after the second comes no state
 abbrev pub example_answer : List ℕ
 example_answer =
     codes "formula P{>=0.5}[X a]" ++ 10 ∷ codes "1 satisfied 1.000000000000 1.000000000000" ++ 10
-    ∷ codes "2 refuted 0.000000000000 0.000000000000" ++ 10 ∷ []
+    ∷ codes "2 refuted 0.000000000000 0.000000000000" ++ 10 ∷ codes "refused line 2 column 1 UnknownLabel" ++ 10 ∷ []

@@ -1,18 +1,23 @@
 //! One command of the program, from the words to the bytes.
 #![tactic(auto)]
 
-mod command;
+mod built;
 mod fault_line;
+mod formula_lines;
 mod laws;
+mod line_reply;
 mod mix_columns;
+mod model_files;
 mod nested_verdict;
-mod plain_formula;
-mod plain_text;
+mod next_states;
 mod reading;
+mod replies;
 mod report;
+mod state_answer;
 mod status;
 mod sure;
 mod top;
+mod truth_values;
 mod uniformise;
 mod uniformised_rows;
 mod until_plan;
@@ -20,7 +25,7 @@ mod until_states;
 mod worked_example;
 
 pub use laws::{input_has_an_outcome, outcome_is_one};
-pub use status::{Fault, ModelFault, Part, Status, Which};
+pub use status::{Fault, ModelFault, Status, Which};
 pub use sure::serve_surely;
 pub use top::serve;
 pub use worked_example::serve_example;

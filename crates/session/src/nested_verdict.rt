@@ -1,144 +1,147 @@
-// The answers of formulas at each state.
-ghost use Rattle.std.specs.Prelude.{◌≡◌, ◌+◌, ◌<◌, ◌≤◌, ◌*◌, ◌^◌, length, IfOk, All};
-ghost use Rattle.ctmc_semantics.specs.Fraction.{fraction, decimal_fraction};
-ghost use Rattle.ctmc_semantics.specs.Next.{next_probability, rate_into};
-ghost use Rattle.ctmc_semantics.specs.WordBracket.{WordBracket};
-ghost use Rattle.model_core.specs.Model.{has_label};
-ghost use Rattle.model_core.specs.Transitions.{chain_of};
-ghost use Rattle.session.specs.BracketAnswer.{bracket_answer, bracket_verdict, decided_verdict};
-ghost use Rattle.session.specs.Ends.{AreProbabilities, ends_bracket};
-ghost use Rattle.session.specs.NextAnswer.{next_answers};
-ghost use Rattle.session.specs.PlainFormula.{comparison_of};
-ghost use Rattle.session.specs.Report.{IsPrintable};
-ghost use Rattle.session.specs.UntilAnswer.{words_answer};
+// The answer to a formula over a model.
+ghost use Rattle.std.specs.Prelude.{◌≡◌, ◌<◌, ◌≤◌, length, IfOk, IsTrue};
+ghost use Rattle.csl_syntax.specs.Tree.{tree_of, IsOver};
+ghost use Rattle.model_core.specs.Model.{labelled_chain};
+ghost use Rattle.session.specs.Answer.{answer_lists};
+ghost use Rattle.session.specs.FormulaAnswer.{Answers, Refuses, formula_answer, is_built, verdicts_answer, watched_answer, shown_answer};
+ghost use Rattle.session.specs.Report.{IsWritable};
 
-use crate::report::{Printed, StateAnswer, Verdict};
-use csl_syntax::Op;
-use decimal_text::Decimal;
+use crate::next_states::check_next;
+use crate::report::{Answer, Printed, Shown, Verdict};
+use crate::state_answer::StateAnswer;
+use crate::truth_values::truths;
+use crate::uniformise::{Refusal, time_bound};
+use crate::until_plan::plan_until;
+use crate::until_states::check_until;
+use command_words::Options;
+use csl_syntax::{Bound, Formula};
 use model_core::Model;
-use round_out::{ONE, cmp_frac, mul_div_ceil, mul_div_floor};
 use std::alloc::{AllocError, Global};
-use step_core::Bracket;
 
-// A printed number counts units of 10^-12.
-const UNITS: u64 = 1_000_000_000_000;
+/// Why a formula isn't answered.
+#[derive(Clone, Copy, Debug, PartialEq, Eq)]
+pub(crate) enum CheckFault {
+    /// The plan of an until is refused.
+    Refused(Refusal),
+    Memory,
+}
 
-/// Answers `P{op threshold}[X label]` at each state.
-pub(crate) fn check_next(
+impl From<Refusal> for CheckFault {
+    ghost use Rattle.std.specs.Prelude.{◌≡◌};
+    ghost use Rattle.session.specs.declared.nested_verdict.CheckFault.TheVariants.{Refused};
+
+    ghost from_gives = { λ refusal fault. fault ≡ Refused refusal };
+
+    fn from(refusal: Refusal) -> Self {
+        CheckFault::Refused(refusal)
+    }
+}
+
+impl From<AllocError> for CheckFault {
+    ghost use Rattle.std.specs.Prelude.{◌≡◌};
+    ghost use Rattle.session.specs.declared.nested_verdict.CheckFault.TheVariants.{Memory};
+
+    ghost from_gives = { λ _ fault. fault ≡ Memory };
+
+    fn from(_: AllocError) -> Self {
+        CheckFault::Memory
+    }
+}
+
+/// Answers the formula at each state of the model.
+pub(crate) fn check(
     alloc: Global,
     model: &Model,
-    label: u32,
-    op: Op,
-    threshold: Decimal,
-) -> Result<Vec<StateAnswer>, AllocError>
-    requires { label < length model.now.names }
-    ensures answers { IfOk result (λ states. states.items ≡ next_answers (chain_of model.now.n model.now.rates)
-        (has_label model.now.marks label)
-        (comparison_of op) (decimal_fraction threshold.c threshold.x)) }
-    ensures printable { IfOk result (λ states. All IsPrintable states.items) }
-    ensures few { IfOk result (λ states. length states.items ≤ 65536) }
+    formula: &Formula,
+    options: &Options,
+) -> Result<Answer, CheckFault>
+    requires over { IsOver (length model.now.names) (tree_of formula.now) }
+    requires built { IsTrue (is_built (tree_of formula.now)) }
+    requires some_bits { 8 ≤ options.now.bits }
+    requires few_bits { options.now.bits ≤ 48 }
+    requires state { options.now.state < model.now.n }
+    ensures answer { IfOk result (λ answer. formula_answer (labelled_chain model.now) options.now (tree_of formula.now)
+        ≡ Answers (answer_lists answer)) }
+    ensures refused { (refusal : Refusal) → result ≡ Err (CheckFault.Refused refusal)
+        → formula_answer (labelled_chain model.now) options.now (tree_of formula.now) ≡ Refuses refusal }
+    ensures writable { IfOk result (λ answer. IsWritable (answer_lists answer)) }
 {
-    let n = model.n();
-    let mut answers = Vec::with_capacity(alloc, n as usize)?;
-    for s in 0..n {
-        let into = rate_into(model, s, label);
-        let exit = model.exit(s).max(1);
-        answers.push(ends_answer(Ends::point(into, exit), op, threshold))?;
-    }
-    Ok(answers)
-}
-
-// The rate from a state into the states with a label.
-fn rate_into(model: &Model, s: u32, label: u32) -> u64
-    requires state { s < model.now.n }
-    requires label { label < length model.now.names }
-    ensures value { result ≡ rate_into (chain_of model.now.n model.now.rates) (has_label model.now.marks label) s }
-{
-    let mut sum = 0;
-    for transition in model.row(s) {
-        if model.has(transition.to, label) {
-            sum += transition.rate;
+    match formula {
+        Formula::Next(op, threshold, operand) => {
+            let goal = truths(alloc, model, operand)?;
+            let states = check_next(alloc, model, &goal, *op, *threshold)?;
+            Ok(shown_answer(alloc, &states, None, Vec::new(alloc))?)
         }
-    }
-    sum
-}
-
-// The two ends of a bracket round a probability, over one divisor.
-#[derive(Clone, Copy)]
-struct Ends {
-    lower: u64,
-    upper: u64,
-    den: u64,
-}
-
-impl Ends {
-    // Both ends are the one probability.
-    fn point(num: u64, den: u64) -> Ends
-        ensures { result ≡ record { lower = num; upper = num; den = den } }
-    {
-        Ends {
-            lower: num,
-            upper: num,
-            den,
-        }
-    }
-}
-
-/// The answer of a state whose probability lies between the words.
-pub(crate) fn words_answer(words: Bracket, op: Op, threshold: Decimal) -> StateAnswer
-    requires lower { words.lower ≤ ONE }
-    requires upper { words.upper ≤ ONE }
-    ensures answer { result ≡ words_answer (comparison_of op) record { lower = words.lower; upper = words.upper }
-        (decimal_fraction threshold.c threshold.x) }
-    ensures printable { IsPrintable result }
-{
-    let ends = Ends {
-        lower: words.lower,
-        upper: words.upper,
-        den: ONE,
-    };
-    ends_answer(ends, op, threshold)
-}
-
-// The answer of a state whose probability lies between the ends: what they show of the threshold, and the ends in units
-// of 10^-12, rounded down and up.
-fn ends_answer(ends: Ends, op: Op, threshold: Decimal) -> StateAnswer
-    requires probabilities { AreProbabilities ends }
-    ensures answer { result ≡ bracket_answer (comparison_of op) (ends_bracket ends) (decimal_fraction threshold.c threshold.x) }
-    ensures printable { IsPrintable result }
-{
-    StateAnswer {
-        verdict: ends_verdict(ends, op, threshold),
-        bracket: Printed {
-            low: mul_div_floor(ends.lower, UNITS, ends.den),
-            high: mul_div_ceil(ends.upper, UNITS, ends.den),
+        Formula::Until(op, threshold, left, bound, right) => match bound {
+            Bound::Time(time) => {
+                let bound = time_bound(model, *time, options.bits)?;
+                let live = truths(alloc, model, left)?;
+                let goal = truths(alloc, model, right)?;
+                let plan = plan_until(alloc, model, live, goal, &bound)?;
+                let states = check_until(alloc, &plan, *op, *threshold)?;
+                Ok(watched_answer(alloc, &states, bound.last, options)?)
+            }
+            Bound::Unbounded => unreachable!(),
+            Bound::Reward(_) => unreachable!(),
         },
+        Formula::Tt
+        | Formula::Ff
+        | Formula::Label(_)
+        | Formula::Not(_)
+        | Formula::And(_, _)
+        | Formula::Or(_, _) => Ok(verdicts_answer(alloc, &truths(alloc, model, formula)?)?),
     }
 }
 
-// What the ends show of the threshold.
-fn ends_verdict(ends: Ends, op: Op, threshold: Decimal) -> Verdict
-    requires probabilities { AreProbabilities ends }
-    ensures { result ≡ bracket_verdict (comparison_of op) (ends_bracket ends) (decimal_fraction threshold.c threshold.x) }
+// The answer to a formula without a probability operator, by its truth values.
+fn verdicts_answer(alloc: Global, truths: &[bool]) -> Result<Answer, AllocError>
+    ensures { IfOk result (λ answer. answer_lists answer ≡ verdicts_answer truths.now) }
 {
-    let lower = cmp_frac(ends.lower, ends.den, threshold.c, threshold.x);
-    let upper = cmp_frac(ends.upper, ends.den, threshold.c, threshold.x);
-    match op {
-        Op::Less => decided_verdict(upper.is_lt(), lower.is_ge()),
-        Op::AtMost => decided_verdict(upper.is_le(), lower.is_gt()),
-        Op::More => decided_verdict(lower.is_gt(), upper.is_le()),
-        Op::AtLeast => decided_verdict(lower.is_ge(), upper.is_lt()),
+    let mut verdicts = Vec::with_capacity(alloc, truths.len())?;
+    for holds in truths {
+        verdicts.push(Verdict::of(*holds))?;
     }
+    Ok(Answer {
+        verdicts,
+        shown: None,
+    })
 }
 
-fn decided_verdict(satisfied: bool, refuted: bool) -> Verdict
-    ensures { result ≡ decided_verdict satisfied refuted }
+// The answer to an until, by the answers at the states: the bracket of the watched state stands as often as it is watched.
+fn watched_answer(
+    alloc: Global,
+    states: &[StateAnswer],
+    last: u32,
+    options: &Options,
+) -> Result<Answer, AllocError>
+    requires { options.now.state < length states.now }
+    ensures { IfOk result (λ answer. answer_lists answer ≡ watched_answer options.now last states.now) }
 {
-    if satisfied {
-        Verdict::Satisfied
-    } else if refuted {
-        Verdict::Refuted
-    } else {
-        Verdict::Undecided
+    let watched = vec![in alloc; states[options.state as usize].bracket; options.watch as usize]?;
+    shown_answer(alloc, states, Some(last), watched)
+}
+
+// The answer to a probability operator, by the answers at the states.
+fn shown_answer(
+    alloc: Global,
+    states: &[StateAnswer],
+    horizon: Option<u32>,
+    watched: Vec<Printed>,
+) -> Result<Answer, AllocError>
+    ensures { IfOk result (λ answer. answer_lists answer ≡ shown_answer horizon watched.items states.now) }
+{
+    let mut verdicts = Vec::with_capacity(alloc, states.len())?;
+    let mut brackets = Vec::with_capacity(alloc, states.len())?;
+    for state in states {
+        verdicts.push(state.verdict)?;
+        brackets.push(state.bracket)?;
     }
+    Ok(Answer {
+        verdicts,
+        shown: Some(Shown {
+            horizon,
+            watched,
+            states: brackets,
+        }),
+    })
 }

@@ -1,9 +1,11 @@
 // What is printed of an answer.
-ghost use Rattle.std.specs.Prelude.{◌≡◌, ℕ, suc, ◌+◌, ◌^◌, ◌<◌, ◌≤◌, ◌++◌, List, [], ◌∷◌, Some, All, length, OnOk, IfOk, IsErrOf};
+ghost use Rattle.std.specs.Prelude.{◌≡◌, ◌++◌, ◌∷◌, Some, All, length, OnOk, IsErrOf, decimal};
 ghost use Rattle.std.specs.Io.KnownBytes.{Appends};
 ghost use Rattle.outside.specs.Causes.{HasCause};
 ghost use Rattle.outside.specs.Whole.{WritesFront};
-ghost use Rattle.session.specs.Report.{verdict_text, state_line, state_lines, formula_line, horizon_line, answer_text, IsPrintable};
+ghost use Rattle.session.specs.Answer.{answer_lists, shown_lists};
+ghost use Rattle.session.specs.FormulaAnswer.{truth_verdict};
+ghost use Rattle.session.specs.Report.{verdict_text, bracket_text, verdict_line, verdict_lines, state_line, state_lines, watch_line, watch_lines, formula_line, horizon_line, answer_lines, answer_text, IsPrintable, ArePrintable, IsWritable};
 
 use decimal_text::write12;
 use itoa::Buffer;
@@ -19,6 +21,17 @@ pub(crate) enum Verdict {
 }
 
 impl Verdict {
+    /// The verdict of a truth value.
+    pub(crate) fn of(holds: bool) -> Verdict
+        ensures { result ≡ truth_verdict holds }
+    {
+        if holds {
+            Verdict::Satisfied
+        } else {
+            Verdict::Refuted
+        }
+    }
+
     fn text(&self) -> &'static [u8]
         ensures { result.now ≡ verdict_text self.now }
     {
@@ -37,31 +50,59 @@ pub(crate) struct Printed {
     pub(crate) high: u64,
 }
 
-/// The verdict at a state, and the bracket round its probability.
-#[derive(Clone, Copy, Debug, PartialEq, Eq)]
-pub(crate) struct StateAnswer {
-    pub(crate) verdict: Verdict,
-    pub(crate) bracket: Printed,
+/// What is shown of a probability operator: the horizon of an until, the brackets of the watched state in the order in which
+/// they were taken, and the bracket of each state.
+#[derive(Debug, Drop)]
+pub(crate) struct Shown {
+    pub(crate) horizon: Option<u32>,
+    pub(crate) watched: Vec<Printed>,
+    pub(crate) states: Vec<Printed>,
 }
 
-/// Writes the lines of an answered formula, each as one piece. An until alone has a horizon.
+/// The answer to a formula: a verdict for each state, and what is shown where it is a probability operator.
+#[derive(Debug, Drop)]
+pub(crate) struct Answer {
+    pub(crate) verdicts: Vec<Verdict>,
+    pub(crate) shown: Option<Shown>,
+}
+
+/// Writes the lines of an answered formula, each as one piece. Here the formula is its text.
 pub(crate) fn write_answer<K: Sink>(
     alloc: Global,
     formula: &[u8],
-    horizon: Option<u32>,
-    states: &[StateAnswer],
+    answer: &Answer,
     out: &mut K,
 ) -> Result<(), PutFault>
-    requires printable { All IsPrintable states.now }
-    requires few { length states.now < 2 ^ 32 }
-    ensures ok { OnOk result (Appends (K.written out.old) (K.written out.new) (answer_text formula.now horizon states.now)) }
-    ensures front { WritesFront (answer_text formula.now horizon states.now) (K.written out.old) (K.written out.new) }
+    requires { IsWritable (answer_lists answer.now) }
+    ensures ok { OnOk result (Appends (K.written out.old) (K.written out.new) (answer_text formula.now (answer_lists answer.now))) }
+    ensures front { WritesFront (answer_text formula.now (answer_lists answer.now)) (K.written out.old) (K.written out.new) }
     ensures flushed { K.flushed out.new ≡ K.flushed out.old }
     ensures cause { HasCause (K.fault_count out.old) (K.fault_count out.new) (IsErrOf result PutFault.Failed) }
 {
     write_formula_line(alloc, formula, out)?;
-    write_horizon_line(alloc, horizon, out)?;
-    write_state_lines(alloc, states, out)
+    match &answer.shown {
+        Some(shown) => write_shown(alloc, &answer.verdicts, shown, out),
+        None => write_verdict_lines(alloc, &answer.verdicts, out),
+    }
+}
+
+// The lines of a probability operator after that of the formula.
+fn write_shown<K: Sink>(
+    alloc: Global,
+    verdicts: &[Verdict],
+    shown: &Shown,
+    out: &mut K,
+) -> Result<(), PutFault>
+    requires { ArePrintable (length verdicts.now) (shown_lists shown.now) }
+    ensures ok { OnOk result (Appends (K.written out.old) (K.written out.new)
+        (answer_lines verdicts.now (Some (shown_lists shown.now)))) }
+    ensures front { WritesFront (answer_lines verdicts.now (Some (shown_lists shown.now))) (K.written out.old) (K.written out.new) }
+    ensures flushed { K.flushed out.new ≡ K.flushed out.old }
+    ensures cause { HasCause (K.fault_count out.old) (K.fault_count out.new) (IsErrOf result PutFault.Failed) }
+{
+    write_horizon_line(alloc, shown.horizon, out)?;
+    write_watch_lines(alloc, &shown.watched, out)?;
+    write_state_lines(alloc, verdicts, &shown.states, out)
 }
 
 fn write_formula_line<K: Sink>(alloc: Global, formula: &[u8], out: &mut K) -> Result<(), PutFault>
@@ -94,22 +135,62 @@ fn write_horizon_line<K: Sink>(
     write_whole(out, &line)
 }
 
-fn write_state_lines<K: Sink>(
+fn write_watch_lines<K: Sink>(
     alloc: Global,
-    states: &[StateAnswer],
+    watched: &[Printed],
     out: &mut K,
 ) -> Result<(), PutFault>
-    requires printable { All IsPrintable states.now }
-    requires few { length states.now < 2 ^ 32 }
-    ensures ok { OnOk result (Appends (K.written out.old) (K.written out.new) (state_lines 1 states.now)) }
-    ensures front { WritesFront (state_lines 1 states.now) (K.written out.old) (K.written out.new) }
+    requires { All IsPrintable watched.now }
+    ensures ok { OnOk result (Appends (K.written out.old) (K.written out.new) (watch_lines 1 watched.now)) }
+    ensures front { WritesFront (watch_lines 1 watched.now) (K.written out.old) (K.written out.new) }
     ensures flushed { K.flushed out.new ≡ K.flushed out.old }
     ensures cause { HasCause (K.fault_count out.old) (K.fault_count out.new) (IsErrOf result PutFault.Failed) }
 {
     let mut line = Vec::new(alloc);
-    for (s, state) in states.iter().enumerate() {
+    for (i, bracket) in watched.iter().enumerate() {
         line.clear();
-        put_state_line(&mut line, s as u64 + 1, state)?;
+        put_watch_line(&mut line, i as u64 + 1, bracket)?;
+        write_whole(out, &line)?;
+    }
+    Ok(())
+}
+
+fn write_verdict_lines<K: Sink>(
+    alloc: Global,
+    verdicts: &[Verdict],
+    out: &mut K,
+) -> Result<(), PutFault>
+    ensures ok { OnOk result (Appends (K.written out.old) (K.written out.new) (verdict_lines 1 verdicts.now)) }
+    ensures front { WritesFront (verdict_lines 1 verdicts.now) (K.written out.old) (K.written out.new) }
+    ensures flushed { K.flushed out.new ≡ K.flushed out.old }
+    ensures cause { HasCause (K.fault_count out.old) (K.fault_count out.new) (IsErrOf result PutFault.Failed) }
+{
+    let mut line = Vec::new(alloc);
+    for (s, verdict) in verdicts.iter().enumerate() {
+        line.clear();
+        put_verdict_line(&mut line, s as u64 + 1, *verdict)?;
+        write_whole(out, &line)?;
+    }
+    Ok(())
+}
+
+fn write_state_lines<K: Sink>(
+    alloc: Global,
+    verdicts: &[Verdict],
+    brackets: &[Printed],
+    out: &mut K,
+) -> Result<(), PutFault>
+    requires each { length brackets.now ≡ length verdicts.now }
+    requires printable { All IsPrintable brackets.now }
+    ensures ok { OnOk result (Appends (K.written out.old) (K.written out.new) (state_lines 1 verdicts.now brackets.now)) }
+    ensures front { WritesFront (state_lines 1 verdicts.now brackets.now) (K.written out.old) (K.written out.new) }
+    ensures flushed { K.flushed out.new ≡ K.flushed out.old }
+    ensures cause { HasCause (K.fault_count out.old) (K.fault_count out.new) (IsErrOf result PutFault.Failed) }
+{
+    let mut line = Vec::new(alloc);
+    for s in 0..verdicts.len() {
+        line.clear();
+        put_state_line(&mut line, s as u64 + 1, verdicts[s], &brackets[s])?;
         write_whole(out, &line)?;
     }
     Ok(())
@@ -134,19 +215,60 @@ fn put_horizon_line(line: &mut Vec<u8>, last: u32) -> Result<(), AllocError>
     Ok(())
 }
 
+fn put_watch_line(line: &mut Vec<u8>, number: u64, bracket: &Printed) -> Result<(), AllocError>
+    requires { IsPrintable bracket.now }
+    ensures { OnOk result (line.new.items ≡ line.old.items ++ watch_line number bracket.now) }
+{
+    let mut digits = Buffer::new();
+    line.extend_from_slice(b"watch ")?;
+    line.extend_from_slice(digits.format(number).as_bytes())?;
+    line.push(b' ')?;
+    put_bracket(line, bracket)?;
+    line.push(b'\n')?;
+    Ok(())
+}
+
 // States are numbered from 1.
-fn put_state_line(line: &mut Vec<u8>, number: u64, answer: &StateAnswer) -> Result<(), AllocError>
-    requires { IsPrintable answer.now }
-    ensures { OnOk result (line.new.items ≡ line.old.items ++ state_line number answer.now) }
+fn put_verdict_line(line: &mut Vec<u8>, number: u64, verdict: Verdict) -> Result<(), AllocError>
+    ensures { OnOk result (line.new.items ≡ line.old.items ++ verdict_line number verdict) }
+{
+    put_verdict(line, number, verdict)?;
+    line.push(b'\n')?;
+    Ok(())
+}
+
+fn put_state_line(
+    line: &mut Vec<u8>,
+    number: u64,
+    verdict: Verdict,
+    bracket: &Printed,
+) -> Result<(), AllocError>
+    requires { IsPrintable bracket.now }
+    ensures { OnOk result (line.new.items ≡ line.old.items ++ state_line number verdict bracket.now) }
+{
+    put_verdict(line, number, verdict)?;
+    line.push(b' ')?;
+    put_bracket(line, bracket)?;
+    line.push(b'\n')?;
+    Ok(())
+}
+
+fn put_verdict(line: &mut Vec<u8>, number: u64, verdict: Verdict) -> Result<(), AllocError>
+    ensures { OnOk result (line.new.items ≡ line.old.items ++ (decimal number ++ 32 ∷ verdict_text verdict)) }
 {
     let mut digits = Buffer::new();
     line.extend_from_slice(digits.format(number).as_bytes())?;
     line.push(b' ')?;
-    line.extend_from_slice(answer.verdict.text())?;
+    line.extend_from_slice(verdict.text())?;
+    Ok(())
+}
+
+fn put_bracket(line: &mut Vec<u8>, bracket: &Printed) -> Result<(), AllocError>
+    requires { IsPrintable bracket.now }
+    ensures { OnOk result (line.new.items ≡ line.old.items ++ bracket_text bracket.now) }
+{
+    line.extend_from_slice(&write12(bracket.low))?;
     line.push(b' ')?;
-    line.extend_from_slice(&write12(answer.bracket.low))?;
-    line.push(b' ')?;
-    line.extend_from_slice(&write12(answer.bracket.high))?;
-    line.push(b'\n')?;
+    line.extend_from_slice(&write12(bracket.high))?;
     Ok(())
 }

@@ -3,12 +3,6 @@ ghost use Rattle.std.specs.Prelude.{◌≡◌};
 
 use text_lines::{FileFault, FileWhat};
 
-/// A part of the input, of which only a plain form is read today.
-#[derive(Clone, Copy, Debug, PartialEq, Eq)]
-pub enum Part {
-    Formula,
-}
-
 /// One of the files of a model: that of the chain, of the labels, or of the rewards.
 #[derive(Clone, Copy, Debug, PartialEq, Eq)]
 pub enum Which {
@@ -17,7 +11,8 @@ pub enum Which {
     RewFile,
 }
 
-/// What is wrong with a file of the model, and at which of its lines, from 1; `TooBig`, more than 64 MiB, is at line 0.
+/// What is wrong with a file of the model, and at which of its lines, from 1. At line 0 stand `TooBig`, where the file has
+/// more than 64 MiB, and `WatchState`, where the chain doesn't have the state that is to be watched.
 #[derive(Clone, Copy, Debug, PartialEq, Eq)]
 pub struct ModelFault {
     pub file: Which,
@@ -50,18 +45,16 @@ pub enum Fault {
 /// How a command ended.
 #[derive(Clone, Copy, Debug, PartialEq, Eq)]
 pub enum Status {
-    /// The formula is answered; all text is written and flushed.
+    /// Each line of the formulas is answered; all text is written and flushed.
     Done,
-    /// The formula is an until that would look at more than 16,384 jumps, or whose tables would have more than 2^23
-    /// words; its line is written and flushed.
+    /// A line of the formulas was refused, and the others are answered; or the formulas have more than 1 MiB. All text is
+    /// written and flushed.
     Refused,
     /// The words are no command; the usage line is written and flushed.
     Usage,
     /// This is what is wrong with the first file that has a fault; its line is written and flushed. Nothing is read of
     /// the formulas.
     Model(ModelFault),
-    /// The formulas aren't of the plain form, or have too many bytes. The part's line is written and flushed.
-    NotBuilt(Part),
     /// The outside failed. A front of the text is written.
     Outside(Fault),
     /// Memory ran out. A front of the text is written.
@@ -82,7 +75,6 @@ impl Status {
             Status::Model(_) => 3,
             Status::Outside(_) => 4,
             Status::Memory => 5,
-            Status::NotBuilt(_) => 6,
         }
     }
 }

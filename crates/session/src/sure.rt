@@ -1,9 +1,8 @@
 // The top call where nothing outside fails.
-ghost use Rattle.std.specs.Prelude.{◌≡◌, [], ◌++◌, Some, IfSome, IsSome, map, string_bytes};
-ghost use Rattle.outside.specs.Shelf.{file_named};
-ghost use Rattle.session.specs.Command.{command_of};
+ghost use Rattle.std.specs.Prelude.{◌≡◌, [], ◌++◌, Some, map, string_bytes};
 ghost use Rattle.session.specs.Outcome.{Outcome, IsOutcome, outcome_text, outcome_status};
-ghost use Rattle.session.specs.Serve.{AreThere, IsMemoryOr, Settles};
+ghost use Rattle.session.specs.Laws.{AreNamed};
+ghost use Rattle.session.specs.Serve.{IsMemoryOr, Settles};
 
 use crate::{Status, serve};
 use outside::{OpenGate, SureFiles, SureSink, SureSource};
@@ -21,7 +20,7 @@ pub fn serve_surely(
     out: &mut SureSink,
 ) -> Status
     requires fresh { files.old.asked ≡ [] }
-    requires named { IfSome (command_of (map string_bytes words.now)) (λ names. AreThere names files.old.files) }
+    requires named { AreNamed (map string_bytes words.now) files.old.files }
     ensures settled { IsMemoryOr result (Settles (map string_bytes words.now) (Some files.old.files) (Some formulas.old.left)
         (Some formulas.new.left)
         (Some out.old.written) (Some out.new.written) (Some out.new.flushed) result) }

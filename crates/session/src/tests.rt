@@ -12,18 +12,35 @@ use std::thread::Threads;
 mod failing;
 mod files;
 mod limits;
+mod line_faults;
+mod lines;
 mod next;
+mod options;
+mod truths;
 mod until;
 
 // Three states; from the first the second is next with the rate 3, and the third with the rate 7.
 const TRA: &[u8] = b"STATES 3\nTRANSITIONS 2\n1 2 3\n1 3 7\n";
 
+// From state 1 the goal, state 2, is entered with the rate 1.
+const STEP: &[u8] = b"STATES 2\nTRANSITIONS 1\n1 2 1\n";
+
+const STILL: &[u8] = b"STATES 2\nTRANSITIONS 0\n";
+
+// Four states: from the first the second is reached straight, or over the third; nothing leads to the fourth.
+const FOUR: &[u8] = b"STATES 4\nTRANSITIONS 4\n1 2 2\n1 3 1\n3 2 1\n2 4 1\n";
+
 const LAB: &[u8] = b"#DECLARATION\na\n#END\n2 a\n";
+
+const TWO_LABELS: &[u8] = b"#DECLARATION\na b\n#END\n2 a\n3 b\n";
 
 const FORMULA: &[u8] = b"P{>=0.3}[X a]\n";
 
 const ANSWER: &str =
     "formula P{>=0.3}[X a]\n1 satisfied 0.300000000000 0.300000000000\n2 refuted 0.000000000000 0.000000000000\n3 refuted 0.000000000000 0.000000000000\n";
+
+// The answer to the formula `a` over two states.
+const LABEL: &str = "formula a\n1 refuted\n2 satisfied\n";
 
 const CTMC: &[&str] = &["mrmc_any", "ctmc", "M.tra", "M.lab"];
 
@@ -43,7 +60,7 @@ struct Input<'a> {
 }
 
 impl<'a> Input<'a> {
-    // A formula over a chain and its labels.
+    // Formulas over a chain and its labels.
     fn ctmc(tra: &'a [u8], lab: &'a [u8], formulas: &'a [u8]) -> Input<'a> {
         Input {
             words: CTMC,

@@ -1,20 +1,21 @@
-// The top call: the reply is read, written and flushed.
-ghost use Rattle.std.specs.Prelude.{◌≡◌, ℕ, ◌⊎◌, ◌++◌, List, Some, map, string_bytes, OnOk, OnErr, IfSome, IsErrOf, IsNone, IsSomeAnd};
-ghost use Rattle.std.specs.Io.KnownBytes.{Appends, Keeps};
+// The top call: all is read, then the replies are written and flushed.
+ghost use Rattle.std.specs.Prelude.{◌≡◌, ℕ, ◌⊎◌, ◌++◌, List, Some, map, string_bytes, IfOk, IfSome, IsErrOf, IsSomeAnd, OnErr, OnOk};
+ghost use Rattle.std.specs.Io.KnownBytes.{Keeps};
+ghost use Rattle.command_words.specs.Words.{AreCommand};
 ghost use Rattle.outside.specs.Causes.{HasCause};
 ghost use Rattle.outside.specs.Shelf.{Pair};
-ghost use Rattle.outside.specs.Whole.{WritesFront};
-ghost use Rattle.session.specs.Command.{command_of, names_of};
-ghost use Rattle.session.specs.Outcome.{Outcome, IsOutcome, IsFileFaulty, IsNotBuilt, outcome_text, outcome_status, usage_text, not_built_text, refused_text};
+ghost use Rattle.outside.specs.Whole.{AllFlushed};
+ghost use Rattle.session.specs.Command.{Say};
+ghost use Rattle.session.specs.ModelFiles.{IsFileFaulty};
+ghost use Rattle.session.specs.Outcome.{Outcome, IsOutcome, outcome_text, outcome_status};
 ghost use Rattle.session.specs.ReadCause.{HasReadCause, IsUntouched};
-ghost use Rattle.session.specs.Reading.{outcome_of, IsWritable};
-ghost use Rattle.session.specs.Serve.{Says, Settles, IsRefusedInput, AnswersExactly, IsCutShort, AsksFor, AsksBy, IsUsageOrLost, IsLostOr, IsLost};
+ghost use Rattle.session.specs.Reading.{IsReady, Writes, WritesFrontOf};
+ghost use Rattle.session.specs.Serve.{Settles, AnswersExactly, IsCutShort, AsksBy, IsUsageOrLost, IsAnswering, IsLostOr, IsLost};
 
 use crate::fault_line::write_fault;
-use crate::reading::{Reply, Stop, read_reply};
-use crate::report::write_answer;
-use crate::uniformise::Refusal;
-use crate::{Fault, Part, Status};
+use crate::reading::{Prepared, Stop, prepare};
+use crate::replies::write_replies;
+use crate::{Fault, Status};
 use outside::{Failed, Files, Gate, PutFault, Sink, Source, write_whole};
 use std::alloc::Global;
 use std::thread::Threads;
@@ -22,10 +23,14 @@ use std::thread::Threads;
 const USAGE: &[u8] =
     b"usage: mrmc_any (ctmc M.tra M.lab | cmrm M.tra M.lab M.rew) [--workers 1..64] [--bits 8..48] [--jumps 1..16384] [--watch 0..1000] [--state 1..65536]\n";
 
+const FORMULAS_LONG: &[u8] = b"refused FormulasLong\n";
+
 /// Does one command: all that the program does.
 ///
 /// The words are read first, then the files that they name, each before the next is taken, then the formulas to their
-/// end, and the answer is written, one piece a line, and flushed. The words are the program's name and the arguments.
+/// end. Then each line of the formulas is answered or refused, and its reply written, one piece a line of text, before
+/// the next is looked at; blank lines are skipped, and a line whose only word is `quit` ends them. At the end the output
+/// is flushed. The words are the program's name and the arguments.
 pub fn serve<F: Files, S: Source, K: Sink, G: Gate>(
     _rt: &(impl Threads + Sync),
     alloc: Global,
@@ -35,21 +40,17 @@ pub fn serve<F: Files, S: Source, K: Sink, G: Gate>(
     out: &mut K,
     _gate: &G,
 ) -> Status
-    // The headline: the printed answers are exact.
-    ensures exact { result ≡ Status.Done → IsSomeAnd (command_of (map string_bytes words.now)) (λ names.
-        AnswersExactly names (F.files files.old) (S.left formulas.old) (S.left formulas.new) (K.written out.old) (K.written out.new)) }
+    // The headline: each line of the formulas has a reply, and what is printed is exact.
+    ensures exact { IsAnswering result → AnswersExactly (map string_bytes words.now) (F.files files.old) (S.left formulas.old)
+        (S.left formulas.new) (K.written out.old) (K.written out.new) result }
 
     // A status that isn't a loss has its reason, and its text is written and flushed.
     ensures reason { IsLostOr result (Settles (map string_bytes words.now) (F.files files.old) (S.left formulas.old) (S.left formulas.new)
         (K.written out.old) (K.written out.new) (K.flushed out.new) result) }
-    ensures usage { result ≡ Status.Usage → IsNone (command_of (map string_bytes words.now)) × Keeps (S.left formulas.old)
+    ensures usage { result ≡ Status.Usage → (¬ AreCommand (map string_bytes words.now)) × Keeps (S.left formulas.old)
         (S.left formulas.new) }
-    ensures refused { result ≡ Status.Refused → IsSomeAnd (command_of (map string_bytes words.now)) (λ names.
-        IsRefusedInput names (F.files files.old) (S.left formulas.old) (S.left formulas.new)) }
-    ensures model { (fault : _) → result ≡ Status.Model fault → IsSomeAnd (command_of (map string_bytes words.now)) (λ names.
-        IsFileFaulty names (F.files files.old) fault × Keeps (S.left formulas.old) (S.left formulas.new)) }
-    ensures not_built { (part : _) → result ≡ Status.NotBuilt part → IsSomeAnd (command_of (map string_bytes words.now)) (λ names.
-        IsNotBuilt names (F.files files.old) (S.left formulas.old) (S.left formulas.new) part) }
+    ensures model { (fault : _) → result ≡ Status.Model fault → Say (map string_bytes words.now) (λ command. IsSomeAnd command (λ c.
+        IsFileFaulty c (F.files files.old) fault × Keeps (S.left formulas.old) (S.left formulas.new))) }
 
     // Where all is told, the status and the text are a function of the words, the files and the formulas.
     ensures told { (pairs : List Pair) (left written : List ℕ) (now : _) (outcome : Outcome) → F.files files.old ≡ Some pairs → S.left
@@ -58,12 +59,11 @@ pub fn serve<F: Files, S: Source, K: Sink, G: Gate>(
         → IsLostOr result ((result ≡ outcome_status outcome) × (K.written out.new ≡ Some (written ++ outcome_text outcome))) }
 
     // Words that are no command are never anything else.
-    ensures only_usage { IsNone (command_of (map string_bytes words.now)) → IsUsageOrLost result }
+    ensures only_usage { ¬ AreCommand (map string_bytes words.now) → IsUsageOrLost result }
 
     // A fault that is told has its cause, none is hidden, and a call that failed isn't made again.
-    ensures read { HasReadCause (command_of (map string_bytes words.now)) (F.files files.old) (F.fault_count files.old)
-        (F.fault_count files.new)
-        (S.fault_count formulas.old) (S.fault_count formulas.new) (result ≡ Status.Outside Fault.Read) }
+    ensures read { Say (map string_bytes words.now) (λ command. HasReadCause command (F.files files.old) (F.fault_count files.old)
+        (F.fault_count files.new) (S.fault_count formulas.old) (S.fault_count formulas.new) (result ≡ Status.Outside Fault.Read)) }
     ensures write { HasCause (K.fault_count out.old) (K.fault_count out.new) (result ≡ Status.Outside Fault.Write) }
 
     // Where the answer is lost, a front of its text is written, and nothing where reading failed.
@@ -77,76 +77,69 @@ pub fn serve<F: Files, S: Source, K: Sink, G: Gate>(
     ensures unflushed { IsLost result → K.flushed out.new ≡ K.flushed out.old }
 
     // Nothing is taken of the formulas unless the files stand for a model.
-    ensures untouched { IsUntouched (command_of (map string_bytes words.now)) (F.files files.old) (S.left formulas.old)
-        (S.left formulas.new) }
+    ensures untouched { Say (map string_bytes words.now) (λ command. IsUntouched command (F.files files.old) (S.left formulas.old)
+        (S.left formulas.new)) }
 
     // The files stay, and only what the status needs is asked for.
     ensures files { F.files files.new ≡ F.files files.old }
-    ensures asked { IfSome (F.files files.old) (λ _. AsksBy result (command_of (map string_bytes words.now)) (F.asked files.old)
-        (F.asked files.new)) }
+    ensures asked { IfSome (F.files files.old) (λ _. Say (map string_bytes words.now) (λ command. AsksBy result command
+        (F.asked files.old) (F.asked files.new))) }
 {
-    let reply = match read_reply(alloc, words, files, formulas) {
-        Ok(reply) => reply,
+    let prepared = match prepare(alloc, words, files, formulas) {
+        Ok(prepared) => prepared,
         Err(Stop::Read) => return Status::Outside(Fault::Read),
         Err(Stop::Memory) => return Status::Memory,
     };
-    match say(alloc, out, &reply) {
-        Ok(()) => reply.status(),
+    match say(alloc, out, &prepared) {
+        Ok(status) => status,
         Err(PutFault::Failed) => Status::Outside(Fault::Write),
         Err(PutFault::Memory) => Status::Memory,
     }
 }
 
-// Writes and flushes the reply's text.
-fn say<K: Sink>(alloc: Global, out: &mut K, reply: &Reply) -> Result<(), PutFault>
-    requires { IsWritable reply.now }
-    ensures ok { OnOk result (Says (K.written out.old) (K.written out.new) (K.flushed out.new) (outcome_text (outcome_of reply.now))) }
-    ensures front { WritesFront (outcome_text (outcome_of reply.now)) (K.written out.old) (K.written out.new) }
+// Writes and flushes what is said of what was read, and tells the status.
+fn say<K: Sink>(alloc: Global, out: &mut K, prepared: &Prepared) -> Result<Status, PutFault>
+    requires { IsReady prepared.now }
+    ensures written { IfOk result (Writes prepared.now (K.written out.old) (K.written out.new)) }
+    ensures flushed { OnOk result (AllFlushed (K.written out.new) (K.flushed out.new)) }
+    ensures front { WritesFrontOf prepared.now (K.written out.old) (K.written out.new) }
     ensures unflushed { OnErr result (K.flushed out.new ≡ K.flushed out.old) }
     ensures cause { HasCause (K.fault_count out.old) (K.fault_count out.new) (IsErrOf result PutFault.Failed) }
 {
-    write_reply(alloc, out, reply)?;
+    let status = write_said(alloc, out, prepared)?;
     match out.flush() {
-        Ok(()) => Ok(()),
+        Ok(()) => Ok(status),
         Err(Failed) => Err(PutFault::Failed),
     }
 }
 
-fn write_reply<K: Sink>(alloc: Global, out: &mut K, reply: &Reply) -> Result<(), PutFault>
-    requires { IsWritable reply.now }
-    ensures ok { OnOk result (Appends (K.written out.old) (K.written out.new) (outcome_text (outcome_of reply.now))) }
-    ensures front { WritesFront (outcome_text (outcome_of reply.now)) (K.written out.old) (K.written out.new) }
+fn write_said<K: Sink>(alloc: Global, out: &mut K, prepared: &Prepared) -> Result<Status, PutFault>
+    requires { IsReady prepared.now }
+    ensures written { IfOk result (Writes prepared.now (K.written out.old) (K.written out.new)) }
+    ensures front { WritesFrontOf prepared.now (K.written out.old) (K.written out.new) }
     ensures flushed { K.flushed out.new ≡ K.flushed out.old }
     ensures cause { HasCause (K.fault_count out.old) (K.fault_count out.new) (IsErrOf result PutFault.Failed) }
 {
-    match reply {
-        Reply::Usage => write_whole(out, USAGE),
-        Reply::Faulty(fault) => write_fault(alloc, *fault, out),
-        Reply::NotBuilt(part) => write_whole(out, not_built(*part)),
-        Reply::Refused(refusal) => write_whole(out, refused(*refusal)),
-        Reply::Answer(answer) => write_answer(
-            alloc,
-            &answer.formula,
-            answer.horizon,
-            &answer.states,
-            out,
-        ),
-    }
-}
-
-fn not_built(part: Part) -> &'static [u8]
-    ensures { result.now ≡ not_built_text part }
-{
-    match part {
-        Part::Formula => b"not built formula\n",
-    }
-}
-
-fn refused(refusal: Refusal) -> &'static [u8]
-    ensures { result.now ≡ refused_text refusal }
-{
-    match refusal {
-        Refusal::TooLong => b"refused line 1 TooLong\n",
-        Refusal::TooLarge => b"refused line 1 TooLarge\n",
+    match prepared {
+        Prepared::Usage => {
+            write_whole(out, USAGE)?;
+            Ok(Status::Usage)
+        }
+        Prepared::Faulty(fault) => {
+            write_fault(alloc, *fault, out)?;
+            Ok(Status::Model(*fault))
+        }
+        Prepared::FormulasLong => {
+            write_whole(out, FORMULAS_LONG)?;
+            Ok(Status::Refused)
+        }
+        Prepared::Lines(input) => {
+            let all_answered = write_replies(alloc, input, out)?;
+            Ok(if all_answered {
+                Status::Done
+            } else {
+                Status::Refused
+            })
+        }
     }
 }

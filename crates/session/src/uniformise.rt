@@ -3,7 +3,6 @@ ghost use Rattle.std.specs.Prelude.{◌≡◌, Ok, Err, Some, None, ◌<◌, ◌
 ghost use Rattle.ctmc_semantics.specs.Uniformised.{greatest_exit_rate, time_load};
 ghost use Rattle.ctmc_semantics.specs.Horizon.{horizon};
 ghost use Rattle.model_core.specs.Model.{model_chain};
-ghost use Rattle.session.specs.ExactAnswer.{until_bits};
 ghost use Rattle.session.specs.UntilPlan.{until_refusal, IsTimeBound};
 
 use decimal_text::Decimal;
@@ -19,32 +18,47 @@ pub(crate) enum Refusal {
     TooLarge,
 }
 
-/// An average that is cut at the horizon lacks at most 2^-30.
-pub(crate) const BITS: u32 = 30;
+impl Refusal {
+    ghost use Rattle.std.specs.Prelude.{◌≡◌};
+    ghost use Rattle.session.specs.LineReply.{refusal_text};
+
+    /// The name of the refusal.
+    pub(crate) fn text(self) -> &'static [u8]
+        ensures { result.now ≡ refusal_text self }
+    {
+        match self {
+            Refusal::TooLong => b"TooLong",
+            Refusal::TooLarge => b"TooLarge",
+        }
+    }
+}
 
 // The words of the greatest table.
 const MOST_WORDS: u64 = 1 << 23;
 
 /// What a plan needs of a time bound: the number of jumps that are expected within the time, the number of jumps up to
-/// which is looked, and the rate of the uniformised chain's jumps.
+/// which is looked, past which at most 2^-bits is left, and the rate of the uniformised chain's jumps.
 #[derive(Clone, Copy, Debug)]
 pub(crate) struct TimeBound {
     pub(crate) load: Load,
     pub(crate) last: u32,
+    pub(crate) bits: u32,
     pub(crate) uniform: u64,
 }
 
 /// What a plan needs of the time bound of an until over the model, or why the until is refused.
-pub(crate) fn time_bound(model: &Model, time: Decimal) -> Result<TimeBound, Refusal>
-    ensures refusal { MatchResult result (λ _. until_refusal (model_chain model.now) model.now.scale time ≡ None)
-        (λ refusal. until_refusal (model_chain model.now) model.now.scale time ≡ Some refusal) }
+pub(crate) fn time_bound(model: &Model, time: Decimal, bits: u32) -> Result<TimeBound, Refusal>
+    requires some_bits { 8 ≤ bits }
+    requires few_bits { bits ≤ 48 }
+    ensures refusal { MatchResult result (λ _. until_refusal (model_chain model.now) model.now.scale bits time ≡ None)
+        (λ refusal. until_refusal (model_chain model.now) model.now.scale bits time ≡ Some refusal) }
     ensures load { IfOk result (λ bound. bound.load ≡ time_load (model_chain model.now) model.now.scale time.c time.x) }
-    ensures last { IfOk result (λ bound. bound.last ≡ horizon bound.load until_bits) }
+    ensures bits { IfOk result (λ bound. bound.bits ≡ bits) }
     ensures bound { IfOk result (IsTimeBound (model_chain model.now)) }
 {
     let greatest = greatest_exit_rate(model);
     let load = time_load(model, greatest, time);
-    let Some(last) = horizon(&load, BITS) else {
+    let Some(last) = horizon(&load, bits) else {
         return Err(Refusal::TooLong);
     };
     if (u64::from(last) + 1) * u64::from(model.n()) > MOST_WORDS {
@@ -53,6 +67,7 @@ pub(crate) fn time_bound(model: &Model, time: Decimal) -> Result<TimeBound, Refu
     Ok(TimeBound {
         load,
         last,
+        bits,
         uniform: greatest.max(1),
     })
 }

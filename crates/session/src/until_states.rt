@@ -5,33 +5,34 @@ ghost use Rattle.ctmc_semantics.specs.Fraction.{Fraction, decimal_fraction};
 ghost use Rattle.ctmc_semantics.specs.WordBracket.{WordBracket, settle};
 ghost use Rattle.step_core.specs.SoundPlan.{IsSoundPlan};
 ghost use Rattle.session.specs.MixColumns.{AreMixesOf, IsBounded};
-ghost use Rattle.session.specs.PlainFormula.{comparison_of};
+ghost use Rattle.csl_semantics.specs.Meaning.{comparison_of};
 ghost use Rattle.session.specs.Report.{IsPrintable};
 ghost use Rattle.session.specs.UntilAnswer.{until_answers, settled_answers};
 ghost use Rattle.session.specs.UntilPlan.{IsUntilPlan};
 
 use crate::mix_columns::mixed_brackets;
-use crate::nested_verdict::words_answer;
-use crate::report::StateAnswer;
+use crate::state_answer::{StateAnswer, words_answer};
 use csl_syntax::Op;
 use decimal_text::Decimal;
 use round_out::ONE;
 use std::alloc::{AllocError, Global};
 use step_core::{Bracket, Mix, Plan, plain_tables};
 
-/// Answers `P{op threshold}[tt U[0,t] goal]` at each state, by the plan of reaching the goal within the time.
+/// Answers `P{op threshold}[live U[0,t] goal]` at each state, by the plan of reaching the goal through live states within
+/// the time.
 pub(crate) fn check_until(
     alloc: Global,
     plan: &Plan,
     op: Op,
     threshold: Decimal,
 ) -> Result<Vec<StateAnswer>, AllocError>
-    requires plan { (chain : Chain) × (load : Fraction) × (goal : ℕ → Bool) × IsUntilPlan chain load goal plan.now }
-    ensures answers { (chain : Chain) → (load : Fraction) → (goal : ℕ → Bool) → IsUntilPlan chain load goal plan.now
+    requires plan { (chain : Chain) × (load : Fraction) × (bits : ℕ) × (live : ℕ → Bool) × (goal : ℕ → Bool)
+        × IsUntilPlan chain load bits live goal plan.now }
+    ensures answers { (chain : Chain) → (load : Fraction) → (bits : ℕ) → (live goal : ℕ → Bool)
+        → IsUntilPlan chain load bits live goal plan.now
         → IfOk result (λ states. states.items
-        ≡ until_answers chain load goal (comparison_of op) (decimal_fraction threshold.c threshold.x)) }
-    ensures printable { IfOk result (λ states. All IsPrintable states.items) }
-    ensures few { IfOk result (λ states. length states.items ≤ 65536) }
+        ≡ until_answers chain load bits live goal (comparison_of op) (decimal_fraction threshold.c threshold.x)) }
+    ensures printable { IfOk result (λ states. All (λ a. IsPrintable a.bracket) states.items) }
 {
     let mixes = plan_mixes(alloc, plan)?;
     let frame = &plan.frame;
@@ -68,7 +69,7 @@ fn answer_mixes(
     requires upper_words { All (λ mix. mix.upper ≤ ONE) mixes.now }
     ensures answers { IfOk result (λ states. states.items
         ≡ settled_answers goal.now mixes.now (comparison_of op) (decimal_fraction threshold.c threshold.x)) }
-    ensures printable { IfOk result (λ states. All IsPrintable states.items) }
+    ensures printable { IfOk result (λ states. All (λ a. IsPrintable a.bracket) states.items) }
 {
     let mut answers = Vec::with_capacity(alloc, goal.len())?;
     for s in 0..goal.len() {

@@ -13,23 +13,24 @@ const TRA: &[u8] = b"STATES 2\nTRANSITIONS 1\n1 2 1\n";
 
 const LAB: &[u8] = b"#DECLARATION\na\n#END\n2 a\n";
 
-const FORMULA: &[u8] = b"P{>=0.5}[X a]\n";
+const FORMULAS: &[u8] = b"P{>=0.5}[X a]\nb\n";
 
 /// Serves the worked example: over a chain of two states with one transition it is asked from where the next state has
-/// a label. The status is `Done`, unless memory runs out, and then just these bytes are written, all of them flushed.
+/// a label, and then for a label that isn't there. The first line is answered and the second refused, so the status is
+/// `Refused`, unless memory runs out, and then just these bytes are written, all of them flushed.
 ///
 /// The only error is want of memory, before anything is served.
 pub fn serve_example(
     rt: &(impl Threads + Sync),
     alloc: Global,
 ) -> Result<(Status, SureSink), AllocError>
-    ensures status { IfOk result (λ served. IsMemoryOr served.0 (served.0 ≡ Status.Done)) }
-    ensures written { IfOk result (λ served. served.0 ≡ Status.Done → served.1.written ≡ example_answer) }
-    ensures flushed { IfOk result (λ served. served.0 ≡ Status.Done → served.1.flushed ≡ length served.1.written) }
+    ensures status { IfOk result (λ served. IsMemoryOr served.0 (served.0 ≡ Status.Refused)) }
+    ensures written { IfOk result (λ served. served.0 ≡ Status.Refused → served.1.written ≡ example_answer) }
+    ensures flushed { IfOk result (λ served. served.0 ≡ Status.Refused → served.1.flushed ≡ length served.1.written) }
 {
     let words = words(alloc)?;
     let mut files = SureFiles::new(files(alloc)?);
-    let mut formulas = SureSource::new(FORMULA.to_vec(alloc)?, 0);
+    let mut formulas = SureSource::new(FORMULAS.to_vec(alloc)?, 0);
     let mut out = SureSink::new(Vec::new(alloc), 0);
     let status = serve_surely(rt, alloc, &words, &mut files, &mut formulas, &mut out);
     Ok((status, out))

@@ -2,9 +2,9 @@
 use super::*;
 use text_lines::FileWhat;
 
-// A chain of two states in so many bytes, most of which are blanks.
+// A chain of three states in so many bytes, most of which are blanks.
 fn padded_chain(alloc: Global, bytes: usize) -> Result<Vec<u8>, AllocError> {
-    let mut tra = Vec::from_slice(alloc, b"STATES 3\nTRANSITIONS 2\n1 2 3\n1 3 7\n")?;
+    let mut tra = Vec::from_slice(alloc, TRA)?;
     let blanks = bytes.saturating_sub(tra.len());
     tra.extend_from_slice(&vec![in alloc; b' '; blanks]?)?;
     Ok(tra)
@@ -29,23 +29,68 @@ fn a_file_has_at_most_64_mebibytes(rt: HostRuntime) -> Result<(), Fail> {
     )
 }
 
-// A number with leading zeros makes a formula of exactly 1 MiB; with one more it isn't read.
+// A label, and so many ends of lines after it.
+fn padded_formulas(alloc: Global, ends: usize) -> Result<Vec<u8>, AllocError> {
+    let mut formulas = Vec::from_slice(alloc, b"a")?;
+    formulas.extend_from_slice(&vec![in alloc; b'\n'; ends]?)?;
+    Ok(formulas)
+}
+
+// 1 MiB is answered; with one byte more nothing is, and what stands in the lines doesn't count.
 #[test]
 fn the_formulas_have_at_most_a_mebibyte(rt: HostRuntime) -> Result<(), Fail> {
-    for (zeros, status, text) in [
-        (1_048_576 - 14, Status::Done, ANSWER),
-        (
-            1_048_576 - 13,
-            Status::NotBuilt(Part::Formula),
-            "not built formula\n",
-        ),
-    ] {
-        let mut formula = Vec::from_slice(rt.alloc(), b"P{>=")?;
-        for _ in 0..zeros {
-            formula.push(b'0')?;
-        }
-        formula.extend_from_slice(b"0.3}[X a]\n")?;
-        expect(&rt, Input::ctmc(TRA, LAB, &formula), status, text)?;
+    let formulas = padded_formulas(rt.alloc(), 1_048_575)?;
+    expect(&rt, Input::ctmc(STEP, LAB, &formulas), Status::Done, LABEL)?;
+    let mut formulas = padded_formulas(rt.alloc(), 1_048_576)?;
+    for _ in 0..2 {
+        expect(
+            &rt,
+            Input::ctmc(STEP, LAB, &formulas),
+            Status::Refused,
+            "refused FormulasLong\n",
+        )?;
+        formulas.extend_from_slice(b"&\n")?;
+    }
+    Ok(())
+}
+
+// A line of so many blanks, and then these bytes.
+fn padded_line(alloc: Global, blanks: usize, rest: &[u8]) -> Result<Vec<u8>, AllocError> {
+    let mut line = vec![in alloc; b' '; blanks]?;
+    line.extend_from_slice(rest)?;
+    Ok(line)
+}
+
+// How many blanks, what comes after them, the status, and the text. A blank line, or `quit`, may be longer.
+const LONG_LINES: &[(usize, &[u8], Status, &str)] = &[
+    (4_095, b"a\r\n", Status::Done, LABEL),
+    (
+        4_096,
+        b"a",
+        Status::Refused,
+        "refused line 1 column 4097 Length\n",
+    ),
+    (
+        4_096,
+        b"#\n\nb",
+        Status::Refused,
+        "refused line 1 column 4097 Length\nrefused line 3 column 1 UnknownLabel\n",
+    ),
+    (4_097, b"\na", Status::Done, LABEL),
+    (4_093, b"quit\nb", Status::Done, ""),
+    (
+        5_000,
+        b"quit a\n a",
+        Status::Refused,
+        "refused line 1 column 4097 Length\nformula a\n1 refuted\n2 satisfied\n",
+    ),
+];
+
+#[test]
+fn a_line_with_a_formula_has_at_most_4096_bytes(rt: HostRuntime) -> Result<(), Fail> {
+    for (blanks, rest, status, text) in LONG_LINES {
+        let formulas = padded_line(rt.alloc(), *blanks, rest)?;
+        expect(&rt, Input::ctmc(STEP, LAB, &formulas), *status, text)?;
     }
     Ok(())
 }
@@ -67,57 +112,61 @@ fn a_million_transitions_are_read(rt: HostRuntime) -> Result<(), Fail> {
     )
 }
 
+const TOO_LONG: &[(&[u8], &[u8])] = &[
+    (STEP, b"P{>=0.5}[tt U[0,8177.00000000000001] a]\n"),
+    (STEP, b"P{<1}[tt U[0,8177.1] a]"),
+    (TRA, b"P{>=0.5}[tt U[0,8.177000000000001e2] a]\n"),
+];
+
+const LONG_ENOUGH: &[(&[u8], &[u8], &str)] = &[
+    (
+        STEP,
+        b"P{>=0.5}[tt U[0,8177] a]\n",
+        "formula P{>=0.5}[tt U[0,8177] a]\nhorizon 16384\n1 satisfied 0.999999999999 1.000000000000\n2 satisfied 1.000000000000 1.000000000000\n",
+    ),
+    (
+        TRA,
+        b"P{>=0.5}[tt U[0,8.177e2] a]\n",
+        "formula P{>=0.5}[tt U[0,817.7] a]\nhorizon 16384\n1 refuted 0.29999999999",
+    ),
+    (
+        STILL,
+        b"P{>=0.5}[tt U[0,999999999999999999] a]\n",
+        "formula P{>=0.5}[tt U[0,999999999999999999] a]\nhorizon 30\n1 refuted 0.000000000000 0.000000000932\n",
+    ),
+];
+
 // With exit rates of at most 1 the horizon is at most 16,384 up to the time 8177; with 10 it is up to 817.7.
 #[test]
 fn an_until_looks_at_16384_jumps_at_most(rt: HostRuntime) -> Result<(), Fail> {
-    let step: &[u8] = b"STATES 2\nTRANSITIONS 1\n1 2 1\n";
-    let still: &[u8] = b"STATES 2\nTRANSITIONS 0\n";
-    let refused: [(&[u8], &[u8]); 3] = [
-        (step, b"P{>=0.5}[tt U[0,8177.00000000000001] a]\n"),
-        (step, b"P{<1}[tt U[0,8177.1] a]"),
-        (TRA, b"P{>=0.5}[tt U[0,8.177000000000001e2] a]\n"),
-    ];
-    for (tra, formula) in refused {
+    for (tra, formula) in TOO_LONG {
         let input = Input::ctmc(tra, LAB, formula);
         expect(&rt, input, Status::Refused, "refused line 1 TooLong\n")?;
     }
-    let accepted: [(&[u8], &[u8], &str); 3] = [
-        (
-            step,
-            b"P{>=0.5}[tt U[0,8177] a]\n",
-            "formula P{>=0.5}[tt U[0,8177] a]\nhorizon 16384\n1 satisfied 0.999999999999 1.000000000000\n2 satisfied 1.000000000000 1.000000000000\n",
-        ),
-        (
-            TRA,
-            b"P{>=0.5}[tt U[0,8.177e2] a]\n",
-            "formula P{>=0.5}[tt U[0,817.7] a]\nhorizon 16384\n1 refuted 0.29999999999",
-        ),
-        (
-            still,
-            b"P{>=0.5}[tt U[0,999999999999999999] a]\n",
-            "formula P{>=0.5}[tt U[0,999999999999999999] a]\nhorizon 30\n1 refuted 0.000000000000 0.000000000932\n",
-        ),
-    ];
-    for (tra, formula, front) in accepted {
+    for (tra, formula, front) in LONG_ENOUGH {
         expect_front(&rt, Input::ctmc(tra, LAB, formula), front)?;
     }
     Ok(())
 }
 
+const WIDE: &[u8] = b"STATES 65536\nTRANSITIONS 1\n1 2 1\n";
+
 // Over 65,536 states the tables fit up to 128 layers, that is to a horizon of 127.
 #[test]
 fn the_tables_of_an_until_have_8388608_words_at_most(rt: HostRuntime) -> Result<(), Fail> {
-    let wide: &[u8] = b"STATES 65536\nTRANSITIONS 1\n1 2 1\n";
-    let cases: [(&[u8], &str); 2] = [
-        (b"P{>=0.5}[tt U[0,49] a]\n", "refused line 1 TooLarge\n"),
-        (b"P{>=0.5}[tt U[0,9e3] a]", "refused line 1 TooLong\n"),
-    ];
-    for (formula, line) in cases {
-        expect(&rt, Input::ctmc(wide, LAB, formula), Status::Refused, line)?;
-    }
+    expect(
+        &rt,
+        Input::ctmc(
+            WIDE,
+            LAB,
+            b"P{>=0.5}[tt U[0,49] a]\n\nP{>=0.5}[tt U[0,9e3] a]",
+        ),
+        Status::Refused,
+        "refused line 1 TooLarge\nrefused line 3 TooLong\n",
+    )?;
     expect_front(
         &rt,
-        Input::ctmc(wide, LAB, b"P{>=0.5}[tt U[0,48.5] a]\n"),
+        Input::ctmc(WIDE, LAB, b"P{>=0.5}[tt U[0,48.5] a]\n"),
         "formula P{>=0.5}[tt U[0,48.5] a]\nhorizon 127\n1 satisfied 0.999999999999 1.000000000000\n2 satisfied 1.000000000000 1.000000000000\n3 refuted 0.000000000000 0.000000000932\n",
     )
 }

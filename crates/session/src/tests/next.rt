@@ -1,14 +1,12 @@
-// Next operators: verdicts, brackets, and which inputs are one.
+// Next operators: verdicts and brackets.
 use super::*;
 
 #[test]
 fn a_next_formula_is_answered_whatever_one_call_moves(rt: HostRuntime) -> Result<(), Fail> {
-    for formula in [FORMULA, b"P{>=0.3}[X a]"] {
-        for cut in [0, 1, 7] {
-            let (status, text) = serve_input(&rt, Input::ctmc(TRA, LAB, formula), cut)?;
-            assert_eq!(rt; status, Status::Done, "at {cut}");
-            assert_eq!(rt; str::from_utf8(&text)?, ANSWER, "at {cut}");
-        }
+    for cut in [0, 1, 7] {
+        let (status, text) = serve_input(&rt, Input::ctmc(TRA, LAB, FORMULA), cut)?;
+        assert_eq!(rt; status, Status::Done, "at {cut}");
+        assert_eq!(rt; str::from_utf8(&text)?, ANSWER, "at {cut}");
     }
     Ok(())
 }
@@ -31,45 +29,58 @@ fn any_declared_label_can_be_asked_for(rt: HostRuntime) -> Result<(), Fail> {
     for (formula, want) in cases {
         expect(&rt, Input::ctmc(TRA, lab, formula), Status::Done, want)?;
     }
-    let other = Input::ctmc(TRA, lab, b"P{>0}[X do]");
     expect(
         &rt,
-        other,
-        Status::NotBuilt(Part::Formula),
-        "not built formula\n",
+        Input::ctmc(TRA, lab, b"P{>0}[X do]"),
+        Status::Refused,
+        "refused line 1 column 9 UnknownLabel\n",
     )
 }
 
+const SPELLED: &[&[u8]] = &[
+    b"P{>=0.3}[X a]",
+    b"P { >= 0.3 } [ X a ]\n",
+    b"\tP{>=.30}[X(a)]\r\n",
+    b"(P{>=3e-1}[X ((a))])",
+];
+
 #[test]
-fn a_formula_that_is_not_plain_is_not_built(rt: HostRuntime) -> Result<(), Fail> {
-    let texts: [&[u8]; 18] = [
-        b"",
-        b"P{=0.3}[X a]\n",
-        b"P{>= 0.3}[X a]\n",
-        b"P{>=-0.3}[X a]\n",
-        b"P{>=.}[X a]\n",
-        b"P{>=1.5}[X a]\n",
-        b"P{>=1e-19}[X a]\n",
-        b"P{>=0.3}[X  a]\n",
-        b"P{>=0.3}[X b]\n",
-        b"P{>=0.3}[X tt]\n",
-        b"P{>=0.3}[X a\n",
-        b"P{>=0.3}[X a] \n",
-        b"P{>=0.3}[X a]\n\n",
-        b"P{>=0.3}[tt U a]\n",
-        b"P{>=0.3}[tt U[0,] a]\n",
-        b"P{>=0.3}[tt U[1,2] a]\n",
-        b"P{>=0.3}[tt U[0, 1] a]\n",
-        b"P{>=0.3}[a U[0,1] a]\n",
-    ];
-    for text in texts {
-        let input = Input::ctmc(TRA, LAB, text);
-        expect(
-            &rt,
-            input,
-            Status::NotBuilt(Part::Formula),
-            "not built formula\n",
-        )?;
+fn a_formula_may_be_spelled_freely(rt: HostRuntime) -> Result<(), Fail> {
+    for formulas in SPELLED {
+        expect(&rt, Input::ctmc(TRA, LAB, formulas), Status::Done, ANSWER)?;
+    }
+    Ok(())
+}
+
+// The rates of what satisfies the operand add up; what is never left has the probability 0 of any.
+const SETS: &[(&[u8], &str)] = &[
+    (
+        b"P{>=0.7}[X (a || !b)]",
+        "formula P{>=0.7}[X a || !b]\n1 refuted 0.300000000000 0.300000000000\n2 refuted 0.000000000000 0.000000000000\n3 refuted 0.000000000000 0.000000000000\n",
+    ),
+    (
+        b"P{>=0.7}[X a || b]",
+        "formula P{>=0.7}[X a || b]\n1 satisfied 1.000000000000 1.000000000000\n2 refuted 0.000000000000 0.000000000000\n3 refuted 0.000000000000 0.000000000000\n",
+    ),
+    (
+        b"P{<0.7}[X !a]",
+        "formula P{<0.7}[X !a]\n1 refuted 0.700000000000 0.700000000000\n2 satisfied 0.000000000000 0.000000000000\n3 satisfied 0.000000000000 0.000000000000\n",
+    ),
+    (
+        b"P{>0}[X tt]",
+        "formula P{>0}[X tt]\n1 satisfied 1.000000000000 1.000000000000\n2 refuted 0.000000000000 0.000000000000\n3 refuted 0.000000000000 0.000000000000\n",
+    ),
+    (
+        b"P{<=0}[X a && b]",
+        "formula P{<=0}[X a && b]\n1 satisfied 0.000000000000 0.000000000000\n2 satisfied 0.000000000000 0.000000000000\n3 satisfied 0.000000000000 0.000000000000\n",
+    ),
+];
+
+#[test]
+fn a_next_is_asked_of_any_set_of_states(rt: HostRuntime) -> Result<(), Fail> {
+    for (formula, text) in SETS {
+        let input = Input::ctmc(TRA, TWO_LABELS, formula);
+        expect(&rt, input, Status::Done, text)?;
     }
     Ok(())
 }
@@ -149,8 +160,8 @@ fn the_worked_example_is_answered(rt: HostRuntime) -> Result<(), Fail> {
     let text = str::from_utf8(out.bytes())?;
     assert_eq!(rt;
         text,
-        "formula P{>=0.5}[X a]\n1 satisfied 1.000000000000 1.000000000000\n2 refuted 0.000000000000 0.000000000000\n"
+        "formula P{>=0.5}[X a]\n1 satisfied 1.000000000000 1.000000000000\n2 refuted 0.000000000000 0.000000000000\nrefused line 2 column 1 UnknownLabel\n"
     );
-    assert_eq!(rt; status, Status::Done);
+    assert_eq!(rt; status, Status::Refused);
     Ok(())
 }

@@ -3,11 +3,6 @@ use super::*;
 use ctmc_semantics::{PlainFraction, plain_until_average};
 use decimal_text::write12;
 
-// From state 1 the goal, state 2, is entered with the rate 1.
-const STEP: &[u8] = b"STATES 2\nTRANSITIONS 1\n1 2 1\n";
-
-const STILL: &[u8] = b"STATES 2\nTRANSITIONS 0\n";
-
 // The exact average within the time 1 over three states with rates of at most 1, cut after the jumps.
 fn exact_average(
     rates: &[u64; 9],
@@ -99,6 +94,36 @@ fn a_threshold_in_the_bracket_is_undecided(rt: HostRuntime) -> Result<(), Fail> 
                 front.as_str(),
             )?;
         }
+    }
+    Ok(())
+}
+
+// The states on the way have to satisfy the left operand; the goal itself needn't. The third state, which is live for no
+// formula but the second, is on one of the two ways.
+const LIVE: &[(&[u8], &str)] = &[
+    (
+        b"P{>=0.65}[!b U[0,1] a]",
+        "formula P{>=0.65}[!b U[0,1] a]\nhorizon 36\n1 refuted 0.633475287754 0.633475288687\n2 satisfied 1.000000000000 1.000000000000\n3 refuted 0.000000000000 0.000000000932\n4 refuted 0.000000000000 0.000000000932\n",
+    ),
+    (
+        b"P{>=0.65}[tt U[0,1] a]",
+        "formula P{>=0.65}[tt U[0,1] a]\nhorizon 36\n1 satisfied 0.791166745230 0.791166746162\n2 satisfied 1.000000000000 1.000000000000\n3 refuted 0.632120558828 0.632120559760\n4 refuted 0.000000000000 0.000000000932\n",
+    ),
+    (
+        b"P{>=0.65}[!b&&!a U[0,1] a||b]",
+        "formula P{>=0.65}[!b && !a U[0,1] a || b]\nhorizon 36\n1 satisfied 0.950212931632 0.950212932564\n2 satisfied 1.000000000000 1.000000000000\n3 satisfied 1.000000000000 1.000000000000\n4 refuted 0.000000000000 0.000000000932\n",
+    ),
+    (
+        b"P{<1}[ff U[0,1] a]",
+        "formula P{<1}[ff U[0,1] a]\nhorizon 36\n1 satisfied 0.000000000000 0.000000000932\n2 refuted 1.000000000000 1.000000000000\n3 satisfied 0.000000000000 0.000000000932\n4 satisfied 0.000000000000 0.000000000932\n",
+    ),
+];
+
+#[test]
+fn an_until_leads_over_live_states_alone(rt: HostRuntime) -> Result<(), Fail> {
+    for (formula, text) in LIVE {
+        let input = Input::ctmc(FOUR, TWO_LABELS, formula);
+        expect(&rt, input, Status::Done, text)?;
     }
     Ok(())
 }

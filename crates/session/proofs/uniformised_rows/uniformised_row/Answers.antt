@@ -11,7 +11,8 @@ overflow_sub-share c =
 
 pub loop-transition-preserved : goal.loop-transition-preserved
 loop-transition-preserved c =
-    let more = one_transition c.args.s c.loop-transition.share c.if-transition-s.share c.loop-transition.transition-index c.row-row.result.now
+    let more =
+    one_transition c.args.s c.loop-transition.share c.if-transition-s.share c.loop-transition.transition-index c.row-row.result.now
     _ _ _ _ (omega arith) c.loop-transition.invariant.entries c.in_ok-push_transition.ensures in
     elim c.if-transition-s.branch [
       | then-transition-s w ↦ record {

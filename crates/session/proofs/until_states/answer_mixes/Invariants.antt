@@ -1,6 +1,6 @@
 use Rattle.std.proofs.Common.{◌≡◌, All}
 use Rattle.ctmc_semantics.specs.Fraction.{decimal_fraction}
-use Rattle.session.specs.PlainFormula.{comparison_of}
+use Rattle.csl_semantics.specs.Meaning.{comparison_of}
 use Rattle.session.specs.Report.{IsPrintable}
 use Rattle.session.specs.UntilAnswer.{first_answers, settled_words}
 use Rattle.session.proofs.until_states.answer_mixes.Given as goal
@@ -9,5 +9,5 @@ abbrev pub invariant-loop-s : goal.invariant-loop-s
 invariant-loop-s l = record {
   answers : l.answers.items
       ≡ first_answers (settled_words l.goal l.mixes) (comparison_of l.op) (decimal_fraction l.threshold.c l.threshold.x) l.s;
-  printable : All IsPrintable l.answers.items;
+  printable : All (λ a. IsPrintable a.bracket) l.answers.items;
 }

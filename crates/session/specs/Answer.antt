@@ -1,0 +1,22 @@
+-- The answer to a formula: a verdict for each state, and what is shown of a probability operator, as plain lists.
+use Rattle.std.specs.Prelude.{ℕ, List, Option, option_map}
+use Rattle.session.specs.declared.report.Answer.{Answer}
+use Rattle.session.specs.declared.report.Printed.{Printed}
+use Rattle.session.specs.declared.report.Shown.{Shown}
+use Rattle.session.specs.declared.report.Verdict.{Verdict}
+
+-- the horizon of an until, the brackets of the watched state as they were taken, and the bracket of each state
+pub record ShownLists : Type 0 where
+  pub horizon : Option ℕ
+  pub watched : List Printed
+  pub states : List Printed
+
+pub record AnswerLists : Type 0 where
+  pub verdicts : List Verdict
+  pub shown : Option ShownLists
+
+abbrev pub shown_lists : Shown → ShownLists
+shown_lists shown = record { horizon = shown.horizon; watched = shown.watched.items; states = shown.states.items }
+
+abbrev pub answer_lists : Answer → AnswerLists
+answer_lists answer = record { verdicts = answer.verdicts.items; shown = option_map shown_lists answer.shown }

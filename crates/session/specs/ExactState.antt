@@ -1,0 +1,39 @@
+-- When the answer at a state is exact: what a reader may rely on, whatever was computed.
+use Rattle.std.specs.Prelude.{◌≡◌, ℕ, ◌+◌, ◌≤◌, ◌↔◌}
+use Rattle.ctmc_semantics.specs.Bracket.{printed_bracket, ContainsProbability, ContainsFrom}
+use Rattle.ctmc_semantics.specs.Fraction.{Fraction}
+use Rattle.ctmc_semantics.specs.Horizon.{greatest_width}
+use Rattle.ctmc_semantics.specs.RoundedOut.{IsRoundedDown, IsRoundedUp, IsRoundedOut}
+use Rattle.ctmc_semantics.specs.Threshold.{Comparison, MeetsThreshold}
+use Rattle.ctmc_semantics.specs.Value.{ValueMeets, ValueFails}
+use Rattle.ctmc_semantics.specs.Verdict.{BracketSatisfies, BracketRefutes}
+use Rattle.ctmc_semantics.specs.WordBracket.{WordBracket, word_bracket}
+use Rattle.session.specs.declared.state_answer.StateAnswer.{StateAnswer}
+use Rattle.session.specs.declared.report.Verdict.TheVariants.{Satisfied, Refuted, Undecided}
+
+-- the answer of a next operator whose probability is p: the bracket is p rounded down and up, satisfied is said exactly where p meets the
+-- threshold q by the comparison, and refuted exactly where it doesn't
+pub record IsExactNext (by : Comparison) (p q : Fraction) (answer : StateAnswer) : Type 0 where
+  pub low : IsRoundedDown p answer.bracket.low
+  pub high : IsRoundedUp p answer.bracket.high
+  pub satisfied : (answer.verdict ≡ Satisfied) ↔ MeetsThreshold by p q
+  pub refuted : (answer.verdict ≡ Refuted) ↔ (¬ MeetsThreshold by p q)
+
+-- two words of `2^-62` lie behind the answer: every average x from the horizon on lies between them, they are no wider apart than the
+-- horizon makes them, the printed numbers are these words rounded down and up, and the verdict is exactly what they show of the threshold q
+pub record HasWords (by : Comparison) (last bits : ℕ) (x : ℕ → Fraction) (q : Fraction) (answer : StateAnswer) : Type 0 where
+  pub words : WordBracket
+  pub contains : ContainsFrom (word_bracket words) last x
+  pub narrow : words.upper ≤ words.lower + greatest_width last bits
+  pub printed : IsRoundedOut (word_bracket words) answer.bracket.low answer.bracket.high
+  pub satisfied : (answer.verdict ≡ Satisfied) ↔ BracketSatisfies by (word_bracket words) q
+  pub refuted : (answer.verdict ≡ Refuted) ↔ BracketRefutes by (word_bracket words) q
+
+-- the answer of an until whose averages are x: the printed bracket contains every average from the horizon on, what is said satisfied or
+-- refuted is so of the value of x, a threshold that is left undecided lies in the bracket, and no lazier answer would do
+pub record IsExactUntil (by : Comparison) (last bits : ℕ) (x : ℕ → Fraction) (q : Fraction) (answer : StateAnswer) : Type 0 where
+  pub contains : ContainsFrom (printed_bracket answer.bracket.low answer.bracket.high) last x
+  pub meets : answer.verdict ≡ Satisfied → ValueMeets by x q
+  pub fails : answer.verdict ≡ Refuted → ValueFails by x q
+  pub undecided : answer.verdict ≡ Undecided → ContainsProbability (printed_bracket answer.bracket.low answer.bracket.high) q
+  pub tight : HasWords by last bits x q answer
