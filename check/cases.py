@@ -3,23 +3,24 @@ from fractions import Fraction
 from typing import NamedTuple, Optional
 
 from changed_text import changed_bytes, odd_end_of_line, odd_end_of_text
+from command import RANGES, Options
 from damage import DAMAGES, two_damages
 from decimals import Decimal, decimal_of_units
-from draw_formulas import draw_comparison, draw_next, draw_until, has_choice, has_way, written
+from draw_formulas import EVERYWHERE, draw_live, draw_until, has_barred_way, has_choice, has_way, spelled_formula, until_of
+from draw_inputs import OTHER_INPUTS, many_lines, next_line, one_line, plain_line, until_line
+from draw_lines import COMPARISONS
 from draw_models import LINES_OF, Draft, draw_draft, draw_marks, draw_names, laid_out, limit_model
+from draw_words import (FILE_NAMES, NO_COMMANDS, NO_FILE_NAMES, NO_OPTIONS, OPTION_WRONGS, WORDS, draw_options, ends_of_range,
+                        words_of_command)
 from draws import Draws
 from expected import MOST_JUMPS, MOST_WORDS
-from formulas import Until
+from language import Formula
 from model_files import FILE_LIMIT, MOST_STATES, Chain, FileFault, Labels, read_lab, read_tra
-from other_inputs import OTHER_INPUTS
-from rounded import UNTIL_BITS
 
 TWO_FILES, THREE_FILES = ("tra", "lab"), ("tra", "lab", "rew")
-ODD_NAMES = [b"-", b"M", b"two words", b"mod\xc3\xa8le", b"a-b", b"./N.tra", b"\xe2\x9c\x93", b"$M", b"~", b"*", b"ctmc", b"a\nb"]
-WORDS = [b"ctmc", b"cmrm", b"M.tra", b"M.lab", b"M.rew", b"", b"-"]
-NO_FILE_NAMES = [b"--workers", b"--workers=2", b"--bits", b"--jumps", b"--watch", b"--state", b"--help", b"--version", b"-h", b"--",
-                 b"-M.tra", b"\xff", b"M\xff.tra", b"\xc3", b"\xed\xa0\x80", b"\xc0\xaf", b"\xf5\x80\x80\x80"]
-NO_COMMANDS = [b"CTMC", b"ctmc ", b"ctmc\n", b"ctm", b"ctmcc", b"cmr", b"dtmc", b"generate", b"", b"-", b"--help", b"\xff"]
+ODD_NAMES = [b"-", b"M", b"two words", b"mod\xc3\xa8le", b"a-b", b"./N.tra", b"\xe2\x9c\x93", b"$M", b"~", b"*", b"ctmc", b"a\nb", b"a=b"]
+# Names that only stand behind a `--`.
+DASHED_NAMES = [b"--", b"-M.tra", b"--bits", b"--bits=9", b"--help", b"-h", b"---"]
 
 
 class Case(NamedTuple):
@@ -47,28 +48,32 @@ def spell_model(draws, draft):
 
 
 def draw_model(draws, states):
-    """A model with some label; one in which rates that are right alone add up to too much is drawn anew."""
+    """A model of so many states; one in which rates that are right alone add up to too much is drawn anew."""
     while True:
         try:
-            model = spell_model(draws, draw_draft(draws, states))
+            return spell_model(draws, draw_draft(draws, states))
         except FileFault:
             continue
-        if model.labels.names:
-            return model
 
 
-def draw_formula(draws, model, greatest_load=4):
-    if draws.chance(1, 2):
-        return draw_next(draws, model.chain, model.labels)
-    return draw_until(draws, model.chain, model.labels, greatest_load)
-
-
-def case_of(draws, texts, formula_input, files=None):
-    """The command over these files, or over either two or three of them, under names of any kind."""
+def plain_case(draws, texts, formula_input, files=None, odd_names=tuple(ODD_NAMES)):
+    """The command over these files, or over either two or three of them, under names of any kind, without options."""
     files = files or draws.one_of([TWO_FILES, THREE_FILES])
-    names = [b"M." + file.encode() for file in files] if draws.chance(7, 8) else draws.some_of(ODD_NAMES, len(files))
+    names = [b"M." + file.encode() for file in files] if draws.chance(7, 8) else draws.some_of(odd_names, len(files))
     words = [b"ctmc" if files == TWO_FILES else b"cmrm", *names]
     return Case(words, {name: texts[file] for name, file in zip(names, files)}, formula_input)
+
+
+def with_options(draws, case, given):
+    return case._replace(words=words_of_command(draws, case.words, given))
+
+
+def case_of(draws, model, draw_input, files=None, given=None):
+    """The command with any options over the model, or with these, and an input that is drawn for it."""
+    given = draw_options(draws, model.chain.states) if given is None else given
+    bits = given.get(b"--bits", Options().bits)
+    case = plain_case(draws, model.texts, draw_input(draws, model, bits), files, ODD_NAMES + DASHED_NAMES)
+    return with_options(draws, case, given)
 
 
 # Answers.
@@ -76,23 +81,27 @@ def case_of(draws, texts, formula_input, files=None):
 def draw_model_with(draws, states, is_wanted):
     """Mostly a model that is as wanted; such are rare, and the others are seldom worth a question."""
     model = draw_model(draws, states)
-    while states > 1 and draws.chance(15, 16) and not is_wanted(model.chain, model.labels):
+    while states > 1 and draws.chance(15, 16) and not is_wanted(model):
         model = draw_model(draws, states)
     return model
 
 
+def plain_formulas(draws):
+    return case_of(draws, draw_model(draws, draws.between(1, 8)), many_lines([plain_line], 6))
+
+
 def next_case(draws):
     model = draw_model_with(draws, draws.mostly(draws.between(2, 6), 1, 20), has_choice)
-    return case_of(draws, model.texts, written(draws, draw_next(draws, model.chain, model.labels)))
+    return case_of(draws, model, one_line(next_line))
 
 
 def until_case(draws, states, greatest_load):
-    model = draw_model_with(draws, states, has_way)
-    return case_of(draws, model.texts, written(draws, draw_until(draws, model.chain, model.labels, greatest_load)))
+    model = draw_model_with(draws, states, draws.mostly(has_barred_way, has_way))
+    return case_of(draws, model, one_line(lambda draws, model, bits: spelled_formula(draws, draw_until(draws, model, greatest_load, bits))))
 
 
 def small_until(draws):
-    return until_case(draws, draws.mostly(draws.between(2, 6), 1, 2), draws.mostly(4, 1, 30))
+    return until_case(draws, draws.mostly(draws.between(3, 8), 1, 2), draws.mostly(4, 1, 30))
 
 
 def wide_until(draws):
@@ -103,10 +112,13 @@ def long_until(draws):
     return until_case(draws, draws.between(1, 3), draws.between(100, 1000))
 
 
+def some_line(draws, model, bits):
+    return draws.one_of([next_line, until_line])(draws, model, bits)
+
+
 def greatest_sums(draws):
     """The rates out of a state add up to one unit less than 2^63."""
-    model = spell_model(draws, limit_model(draws, 2 ** 63 - 1))
-    return case_of(draws, model.texts, written(draws, draw_formula(draws, model)))
+    return case_of(draws, spell_model(draws, limit_model(draws, 2 ** 63 - 1)), one_line(some_line))
 
 
 # The limits of an until, reached exactly and passed by the least bit of time.
@@ -124,11 +136,15 @@ def until_at_horizon(draws, states, last, beyond):
     """An until whose horizon is `last`, or one more."""
     # A half of a whole number, divided by one of these rates, has at most three decimals.
     rate = draws.one_of([Decimal(1, 0), Decimal(2, 0), Decimal(5, 0), Decimal(5, 1), Decimal(1, 1), Decimal(1, 3)])
-    model = chain_at_rate(draws, states, rate)
-    decimals = draws.between(3, 10)
-    units = int(Fraction(last - UNTIL_BITS, 2) / rate.fraction() * 10 ** decimals) + (1 if beyond else 0)
-    formula = Until(draw_comparison(draws), Decimal(draws.below(2), 0), decimal_of_units(units, decimals), draws.one_of(model.labels.names))
-    return case_of(draws, model.texts, written(draws, formula))
+
+    def draw_line(draws, model, bits):
+        decimals = draws.between(3, 10)
+        units = int(Fraction(last - bits, 2) / rate.fraction() * 10 ** decimals) + (1 if beyond else 0)
+        live, goal = draws.mostly(EVERYWHERE, draw_live(draws, model.labels.names)), Formula("label", (draws.one_of(model.labels.names),))
+        formula = until_of(draws.one_of(COMPARISONS), Decimal(draws.below(2), 0), live, decimal_of_units(units, decimals), goal)
+        return spelled_formula(draws, formula)
+    given = {**draw_options(draws, states), **draws.one_of([{}, {b"--bits": draws.one_of(RANGES[b"--bits"])}])}
+    return case_of(draws, chain_at_rate(draws, states, rate), one_line(draw_line), given=given)
 
 
 def longest_until(draws):
@@ -138,12 +154,6 @@ def longest_until(draws):
 def too_long_until(draws):
     """Too many jumps are told before too many words."""
     return until_at_horizon(draws, draws.one_of([1, 2, 3, 512, 2000]), MOST_JUMPS, beyond=True)
-
-
-def far_too_long_until(draws):
-    model = draw_model(draws, 3)
-    formula = draw_until(draws, model.chain, model.labels, 1)._replace(time=Decimal(10 ** 18 - 1, draws.below(6)))
-    return case_of(draws, model.texts, written(draws, formula))
 
 
 def until_of_most_words(most_states=False, beyond=False):
@@ -157,10 +167,8 @@ def until_of_most_words(most_states=False, beyond=False):
 # Other formula inputs.
 
 def other_input(draw_input):
-    """The input is drawn from a formula over a sound model."""
     def case(draws):
-        model = draw_model(draws, draws.between(1, 3))
-        return case_of(draws, model.texts, draw_input(draws, draw_formula(draws, model)))
+        return case_of(draws, draw_model(draws, draws.between(1, 4)), draw_input)
     return case
 
 
@@ -173,11 +181,11 @@ def damaged(file, damage):
         lines = {other: make(draws, draft) for other, make in LINES_OF.items()}
         lines[file] = damage(draws, draft, lines[file])
         texts = {other: laid_out(draws, lines[other]) for other in THREE_FILES}
-        drawn = case_of(draws, texts, b"P{>0}[X %s]\n" % draft.names[0], THREE_FILES if file == "rew" else None)
+        drawn = plain_case(draws, texts, b"P{>0}[X %s]\n" % draft.names[0], THREE_FILES if file == "rew" else None)
         last = drawn.words[-1]
-        if drawn.files.get(last) == texts[file]:
-            return drawn
-        return draws.mostly(drawn, with_file(drawn, last, b"0 0\n"), without_file(drawn, last))
+        if drawn.files.get(last) != texts[file]:
+            drawn = draws.mostly(drawn, with_file(drawn, last, b"0 0\n"), without_file(drawn, last))
+        return with_options(draws, drawn, draw_options(draws, draft.states + draws.mostly(0, 2)))
     return case
 
 
@@ -194,7 +202,7 @@ def changed_text(file, change):
     def case(draws):
         model = draw_model(draws, draws.between(1, 4))
         texts = {**model.texts, file: change(draws, model.texts[file])}
-        return case_of(draws, texts, written(draws, draw_formula(draws, model)), THREE_FILES if file == "rew" else None)
+        return case_of(draws, model._replace(texts=texts), one_line(some_line), THREE_FILES if file == "rew" else None)
     return case
 
 
@@ -204,15 +212,31 @@ def file_of_size(file, size):
         model = draw_model(draws, 2)
         texts = {**model.texts, file: model.texts[file].rstrip(b"\r\n") + b"\n"}
         texts[file] += draws.one_of([b" ", b"\t"]) * (size - len(texts[file]))
-        return case_of(draws, texts, written(draws, draw_formula(draws, model)), THREE_FILES)
+        return case_of(draws, model._replace(texts=texts), one_line(some_line), THREE_FILES)
     return case
+
+
+def sound_case(draws, files=None):
+    """A plain case over a small sound model."""
+    model = draw_model(draws, 2)
+    return plain_case(draws, model.texts, one_line(some_line)(draws, model, Options().bits), files)
 
 
 def files_swapped(draws):
     """One file is named where another belongs."""
-    drawn = small_until(draws)
+    drawn = sound_case(draws)
     names = drawn.words[1:]
     return drawn._replace(words=[drawn.words[0], *draws.one_of([names[::-1], names[:1] * len(names), names[1:] + names[:1]])])
+
+
+def watched_state_past(draws):
+    """The chain has no state of the option's number: told once its file is right, before another file is asked for."""
+    drawn = sound_case(draws)
+    wrong = draws.one_of([None, *drawn.words[1:]])
+    if wrong is not None:
+        drawn = draws.one_of([with_file(drawn, wrong, b"0 0\n"), without_file(drawn, wrong)])
+    given = {**draw_options(draws, 2), b"--state": draws.one_of([3, 3, 4, MOST_STATES])}
+    return with_options(draws, drawn, given)
 
 
 # What can't be read or written.
@@ -220,62 +244,77 @@ def files_swapped(draws):
 def missing_file(place):
     """The file isn't there, or is a folder; later ones may be wrong or missing too, which isn't told."""
     def case(draws):
-        model = draw_model(draws, 2)
-        drawn = case_of(draws, model.texts, written(draws, draw_formula(draws, model)), THREE_FILES if place == 2 else None)
+        drawn = sound_case(draws, THREE_FILES if place == 2 else None)
         missing, later = drawn.words[1 + place], drawn.words[2 + place:]
         files = {**drawn.files, **{name: draws.mostly(text, b"x", None) for name, text in drawn.files.items() if name in later}}
+        drawn = drawn._replace(files=files)
         if draws.chance(1, 4):
-            return drawn._replace(files={**files, missing: None})
-        if draws.chance(1, 4):
-            words = [b"" if word == missing else word for word in drawn.words]
-            return drawn._replace(words=words, files=files)
-        return without_file(drawn._replace(files=files), missing)
+            drawn = with_file(drawn, missing, None)
+        elif draws.chance(1, 4):
+            drawn = drawn._replace(words=[b"" if word == missing else word for word in drawn.words])
+        else:
+            drawn = without_file(drawn, missing)
+        return with_options(draws, drawn, draw_options(draws, 2))
     return case
 
 
+def any_answer(draws):
+    return draws.one_of([small_until, next_case, plain_formulas, wrong_words, other_input(many_lines([some_line, plain_line], 5))])(draws)
+
+
 def input_fails(draws):
-    return draws.one_of([small_until, next_case, wrong_words])(draws)._replace(formula_input=None)
+    return any_answer(draws)._replace(formula_input=None)
 
 
 def output_fails(draws):
-    return draws.one_of([small_until, next_case, wrong_words])(draws)._replace(output_fails=True)
+    return any_answer(draws)._replace(output_fails=True)
 
 
-# Words that are no command, and a few that are.
+# Words: options at the ends of their ranges, and words that are no command, with a few that are.
+
+def end_of_range(name, value):
+    def case(draws):
+        states = value if name == b"--state" else 2
+        model = draw_model(draws, 2) if states < MOST_STATES else chain_at_rate(draws, states, Decimal(1, 0))
+        drawn = plain_case(draws, model.texts, one_line(some_line)(draws, model, Options().bits))
+        return with_options(draws, drawn, {**draw_options(draws, 2), name: value})
+    return case
+
+
+def spoiled(spoil):
+    """A command whose words are spoiled."""
+    def case(draws):
+        drawn = sound_case(draws)
+        return drawn._replace(words=spoil(draws, drawn.words))
+    return case
+
 
 def any_words(draws):
     """Words in any number and order, beside the files of a sound model."""
-    model = draw_model(draws, 2)
-    drawn = case_of(draws, model.texts, written(draws, draw_formula(draws, model)))
-    words = [draws.one_of(WORDS) for _ in range(draws.below(7))]
-    return drawn._replace(words=words)
+    return sound_case(draws)._replace(words=[draws.one_of(WORDS) for _ in range(draws.below(8))])
 
 
 def wrong_words(draws):
     """A command with one word changed: left out, put in, or in place of another."""
-    model = draw_model(draws, 2)
-    drawn = case_of(draws, model.texts, written(draws, draw_formula(draws, model)))
-    place, other = draws.below(len(drawn.words) + 1), draws.one_of(WORDS + NO_FILE_NAMES)
-    after = draws.one_of([drawn.words[place:], drawn.words[place + 1:]])
-    words = [*drawn.words[:place], other, *after] if draws.chance(3, 4) else [*drawn.words[:place], *after]
-    return drawn._replace(words=words)
+    drawn = sound_case(draws)
+    words = words_of_command(draws, drawn.words, draw_options(draws, 2))
+    place, other = draws.below(len(words) + 1), draws.one_of(WORDS + NO_FILE_NAMES)
+    after = draws.one_of([words[place:], words[place + 1:]])
+    return drawn._replace(words=[*words[:place], other, *after] if draws.chance(3, 4) else [*words[:place], *after])
 
 
 def with_word(draw_place, word):
     """A command with this word in place of the one at a place that is drawn."""
-    def case(draws):
-        model = draw_model(draws, 1)
-        drawn = case_of(draws, model.texts, written(draws, draw_formula(draws, model)))
-        place = draw_place(draws, len(drawn.words))
-        return drawn._replace(words=[*drawn.words[:place], word, *drawn.words[place + 1:]])
-    return case
+    def spoil(draws, words):
+        place = draw_place(draws, len(words))
+        return [*words[:place], word, *words[place + 1:]]
+    return spoiled(spoil)
 
 
 def number_of_files(kind, count):
     """The first word with this many names of files."""
     def case(draws):
-        model = draw_model(draws, 1)
-        drawn = case_of(draws, model.texts, written(draws, draw_formula(draws, model)), THREE_FILES)
+        drawn = sound_case(draws, THREE_FILES)
         return drawn._replace(words=[kind, *(drawn.words[1:] * 2)[:count]])
     return case
 
@@ -289,21 +328,21 @@ def place_of_file(draws, count):
 
 
 def answer_kinds():
-    yield "next", [next_case] * 24
+    yield "formulas without operator", [plain_formulas] * 8
+    yield "next", [next_case] * 20
     yield "small until", [small_until] * 60
     yield "wide until", [wide_until] * 5
     yield "long until", [long_until] * 3
     yield "greatest sums of rates", [greatest_sums] * 3
-    yield "longest until", [longest_until]
-    yield "until a jump too long", [too_long_until] * 2
-    yield "until far too long", [far_too_long_until]
+    yield "longest until", [longest_until] * 4
+    yield "until a jump too long", [too_long_until] * 4
     yield "largest until", [until_of_most_words(most_states=True), until_of_most_words()]
     yield "until a jump too large", [until_of_most_words(most_states=True, beyond=True), until_of_most_words(beyond=True)]
 
 
-def formula_kinds():
+def input_kinds():
     for name, ways in OTHER_INPUTS.items():
-        yield f"formula: {name}", [other_input(draw_input) for draw_input in ways]
+        yield f"input: {name}", [other_input(draw_input) for draw_input in ways]
 
 
 def file_kinds():
@@ -317,22 +356,30 @@ def file_kinds():
         yield f"{file}: greatest size", [file_of_size(file, FILE_LIMIT)]
         yield f"{file}: too big", [file_of_size(file, FILE_LIMIT + 1)]
     yield "files swapped", [files_swapped] * 3
+    yield "watched state past the chain", [watched_state_past] * 8
 
 
 def outside_kinds():
     for place, file in enumerate(THREE_FILES):
         yield f"{file}: missing", [missing_file(place)] * 2
     yield "input that fails", [input_fails] * 2
-    yield "output that fails", [output_fails] * 2
-    yield "any words", [any_words] * 4
-    yield "wrong words", [wrong_words] * 6
+    yield "output that fails", [output_fails] * 4
+
+
+def word_kinds():
+    yield "option at the end of its range", [end_of_range(name, value) for name in RANGES for value in ends_of_range(name)[0]]
+    for name, ways in OPTION_WRONGS.items():
+        yield f"words: {name}", [spoiled(spoil) for spoil in ways]
+    yield "any words", [any_words] * 6
+    yield "wrong words", [wrong_words] * 8
     yield "number of files", [number_of_files(kind, count) for kind in (b"ctmc", b"cmrm") for count in range(6)]
     yield "first word is no command", [with_word(first_place, word) for word in NO_COMMANDS]
-    yield "word is no file name", [with_word(place_of_file, word) for word in NO_FILE_NAMES]
+    yield "word is a file's name", [with_word(place_of_file, word) for word in FILE_NAMES]
+    yield "word is no file name", [with_word(place_of_file, word) for word in NO_FILE_NAMES + NO_OPTIONS]
 
 
 # Each kind of drawing: its name, and the functions that take turns in it, each once in a round.
-KINDS_OF_CASES = [*answer_kinds(), *formula_kinds(), *file_kinds(), *outside_kinds()]
+KINDS_OF_CASES = [*answer_kinds(), *input_kinds(), *file_kinds(), *outside_kinds(), *word_kinds()]
 
 
 def round_of_turns():

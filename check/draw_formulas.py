@@ -1,64 +1,126 @@
-"""Formulas with thresholds at and near the numbers that decide them, in any spelling."""
+"""Formulas over a model: with thresholds at and near the numbers that decide them, and formulas that aren't built."""
 import math
 from fractions import Fraction
 
 from decimals import Decimal, decimal_of_units
-from draw_numbers import spelled
+from draw_lines import COMPARISONS, PLAIN_KINDS, draw_leaf, draw_tree, line_of, threshold, tokens_of
 from exact import greatest_exit_rate, next_probability
-from formulas import COMPARISONS, Next, Until
-from rounded import ONE, bounded_until_words
+from language import Formula
+from meaning import satisfying
+from rounded import ONE, until_words
 
 FINEST = 10 ** 18
 UNITS = 10 ** 12
 
-def draw_next(draws, chain, labels):
+EVERYWHERE = Formula("tt")
+
+
+def spelled_formula(draws, formula):
+    """The formula in some spelling, with blanks where some must be and at times elsewhere."""
+    return line_of(draws, tokens_of(draws, formula))
+
+
+# Formulas without a probability operator.
+
+def draw_plain(draws, names, greatest=5):
+    """Mostly a label, else some parts joined."""
+    return draw_tree(draws, draws.mostly(1, draws.between(2, greatest)), names, PLAIN_KINDS)
+
+
+def states_of(model, formula):
+    return satisfying(formula, model.chain.states, model.labels)
+
+
+# Next operators.
+
+def draw_next(draws, model):
     """A next operator, mostly with its threshold at a probability that is a decimal, or beside one."""
-    found = next_probabilities(chain, labels)
-    between = [(label, probability) for label, probability in found if 0 < probability < 1]
-    decimals = [(label, probability) for label, probability in between if FINEST % probability.denominator == 0]
-    label, probability = draws.one_of(draws.mostly(decimals, found) or between or found)
+    found = next_probabilities(model, [draw_plain(draws, model.labels.names) for _ in range(4)])
+    between = [(operand, probability) for operand, probability in found if 0 < probability < 1]
+    decimals = [(operand, probability) for operand, probability in between if FINEST % probability.denominator == 0]
+    operand, probability = draws.one_of(draws.mostly(decimals, found) or between or found)
     units = draws.mostly(beside(draws, probability), any_units(draws))
-    return Next(draw_comparison(draws), threshold_of(units), label)
+    return Formula("next", (draws.one_of(COMPARISONS), threshold_of(units), operand))
 
 
-def next_probabilities(chain, labels):
-    """For each label and each state the probability that the next state has the label."""
-    return [(label, next_probability(row, labels.marked[label])) for label in labels.names for row in chain.rows]
+def next_probabilities(model, formulas):
+    """For each formula and each state the probability that the next state satisfies it."""
+    goals = [(formula, states_of(model, formula)) for formula in formulas]
+    return [(formula, next_probability(row, goal)) for formula, goal in goals for row in model.chain.rows]
 
 
-def draw_until(draws, chain, labels, greatest_load):
+def has_choice(model):
+    """Whether the next operator's probability of some label is neither 0 nor 1."""
+    labels = [Formula("label", (name,)) for name in model.labels.names]
+    return any(0 < probability < 1 for _, probability in next_probabilities(model, labels))
+
+
+# Untils with a time bound.
+
+def draw_until(draws, model, greatest_load, bits):
     """An until whose load is at most `greatest_load`, mostly with its threshold in a state's bracket or beside one of its ends."""
-    label, time = draw_goal(draws, chain, labels), draw_time(draws, chain, greatest_load)
-    words = bounded_until_words(chain, labels.marked[label], time)
+    (live, goal), time = draw_way(draws, model), draw_time(draws, model.chain, greatest_load)
+    words = until_words(model.chain, states_of(model, live), states_of(model, goal), time, bits)
     words = draws.mostly([pair for pair in words if 0 < pair[0] < ONE], words) or words
     units = draws.one_of([at_last_bit, inside, inside, beside_printed, any_units])(draws, words)
-    return Until(draw_comparison(draws), threshold_of(units), time, label)
+    return until_of(draws.one_of(COMPARISONS), threshold_of(units), live, time, goal)
 
 
-def draw_goal(draws, chain, labels):
-    """Mostly a label that can be reached from elsewhere."""
-    reached = [name for name in labels.names if is_entered(chain, labels.marked[name])]
-    return draws.one_of(draws.mostly(reached, labels.names) or labels.names)
+def until_of(comparison, limit, live, time, goal):
+    return Formula("until", (comparison, limit, live, ("time", time), goal))
 
 
-def has_choice(chain, labels):
-    """Whether some next operator's probability is neither 0 nor 1."""
-    return any(0 < probability < 1 for _, probability in next_probabilities(chain, labels))
+def draw_way(draws, model):
+    """The two operands: often such that some way to the goal is barred, else mostly such that the goal is entered."""
+    names = model.labels.names
+    ways = [(draw_live(draws, names), draw_plain(draws, names)) for _ in range(12)]
+    if names:
+        ways += [(Formula("not", (draw_leaf(draws, names),)), draw_leaf(draws, names)) for _ in range(12)]
+    for is_wanted in draws.mostly([is_barred, is_entered], [is_entered], []):
+        for live, goal in ways:
+            if is_wanted(model.chain, states_of(model, live), states_of(model, goal)):
+                return live, goal
+    return ways[0]
 
 
-def has_way(chain, labels):
+def draw_live(draws, names):
+    """All states, those without some label, or any others."""
+    other = draw_plain(draws, names)
+    return draws.one_of([EVERYWHERE, Formula("not", (other,)), other])
+
+
+def has_way(model):
     """Whether some label is reached from a state that doesn't have it."""
-    return any(is_entered(chain, goal) for goal in labels.marked.values())
+    everywhere = frozenset(range(model.chain.states))
+    return any(is_entered(model.chain, everywhere, goal) for goal in model.labels.marked.values())
 
 
-def is_entered(chain, goal):
-    """Whether a state outside of the goal has a transition into it."""
-    return any(target in goal for state, row in enumerate(chain.rows) if state not in goal for target, _ in row)
+def has_barred_way(model):
+    """Whether some way to a label is barred by another one."""
+    everywhere, sets = frozenset(range(model.chain.states)), model.labels.marked.values()
+    return any(is_barred(model.chain, everywhere - bar, goal) for bar in sets for goal in sets)
 
 
-def draw_comparison(draws):
-    return draws.one_of(list(COMPARISONS))
+def is_entered(chain, live, goal):
+    return any(target in goal for state in live - goal for target, _ in chain.rows[state])
 
+
+def is_barred(chain, live, goal):
+    """Whether a live state leads to one that is neither live nor of the goal, but from which the goal can be reached."""
+    barred = {target for state in live - goal for target, _ in chain.rows[state]} - live - goal
+    return bool(barred) and not barred.isdisjoint(reaching(chain, goal))
+
+
+def reaching(chain, goal):
+    """The states from which the goal can be reached."""
+    found, grew = set(goal), True
+    while grew:
+        more = {state for state, row in enumerate(chain.rows) if state not in found and any(target in found for target, _ in row)}
+        found, grew = found | more, bool(more)
+    return found
+
+
+# Thresholds and times.
 
 def threshold_of(units):
     """The nearest threshold to so many units of 10^-18."""
@@ -118,13 +180,43 @@ def time_at_most(draws, time):
     return decimal_of_units(max(0, units - draws.mostly(0, 1)), decimals)
 
 
-def written(draws, formula):
-    """The formula with its numbers in any spelling, and a line feed or none."""
-    return spelled_formula(draws, formula) + draws.mostly(b"\n", b"")
+# Formulas that aren't built: each is but one step from one that is.
+
+def draw_operator(draws, names):
+    """A next, or an until with a time bound, of any kind."""
+    front = draws.one_of(COMPARISONS), threshold(draws)
+    if draws.chance(1, 2):
+        return Formula("next", (*front, draw_plain(draws, names)))
+    return until_of(*front, draw_plain(draws, names), Decimal(draws.below(10), 0), draw_plain(draws, names))
 
 
-def spelled_formula(draws, formula):
-    threshold, path = spelled(draws, formula.threshold), b"X " + formula.label
-    if isinstance(formula, Until):
-        path = b"tt U[0,%s] %s" % (spelled(draws, formula.time), formula.label)
-    return b"P{%s%s}[%s]" % (formula.comparison, threshold, path)
+def draw_bound(draws):
+    """No bound at all, or one on the reward."""
+    return draws.one_of([None, ("reward", Decimal(draws.below(100), 0))])
+
+
+def operator_within(draws, names):
+    """An operator below another one's next or until; with it also a time that alone would be too long."""
+    inner, other, front = draw_operator(draws, names), draw_plain(draws, names), (draws.one_of(COMPARISONS), threshold(draws))
+    time = draws.one_of([Decimal(1, 0), Decimal(10 ** 17, 0)])
+    return draws.one_of([Formula("next", (*front, inner)), until_of(*front, inner, time, other), until_of(*front, other, time, inner)])
+
+
+def operator_below_connective(draws, names):
+    inner, other = draw_operator(draws, names), draw_plain(draws, names)
+    return draws.one_of([Formula("not", (inner,)), Formula("and", (inner, other)), Formula("or", (other, inner))])
+
+
+def other_bound(draws, names):
+    operands = draw_plain(draws, names), draw_plain(draws, names)
+    return Formula("until", (draws.one_of(COMPARISONS), threshold(draws), operands[0], draw_bound(draws), operands[1]))
+
+
+def operator_deep_below(draws, names):
+    """Operators in a formula of any size."""
+    parts = [draw_tree(draws, draws.between(1, 6), names) for _ in range(2)]
+    return Formula(draws.one_of(["and", "or"]), (draw_operator(draws, names), draws.one_of(parts)))
+
+
+def draw_unbuilt(draws, names):
+    return draws.one_of([operator_within, operator_below_connective, other_bound, operator_deep_below])(draws, names)

@@ -10,22 +10,30 @@ RESERVED = [b"S", b"quit", b"P", b"X", b"U", b"tt", b"ff"]
 SYMBOLS = [b"&&", b"||", b"!", b"(", b")", b"{", b"}", b"[", b"]", b",", b"~", b"<=", b">=", b"<", b">"]
 NO_TOKENS = [b"&", b"|", b"=", b"-", b"+", b"#", b"\"", b"\\", b"\r", b"\x00", b"\xc3\xa9", b";", b":", b"/"]
 COMPARISONS = [b"<", b"<=", b">", b">="]
+PLAIN_KINDS = ["not", "and", "or", "and", "or"]
+KINDS = [*PLAIN_KINDS, "next", "until"]
 
 
-def draw_tree(draws, size):
-    """A formula of about so many parts."""
+def draw_tree(draws, size, labels=LABELS, kinds=KINDS):
+    """A formula of about so many parts, which are of these kinds."""
     if size <= 1:
-        return draws.mostly(Formula("label", (draws.one_of(LABELS),)), Formula("tt"), Formula("ff"))
-    kind = draws.one_of(["not", "and", "or", "and", "or", "next", "until"])
+        return draw_leaf(draws, labels)
+    kind = draws.one_of(kinds)
     if kind == "not":
-        return Formula("not", (draw_tree(draws, size - 1),))
+        return Formula("not", (draw_tree(draws, size - 1, labels, kinds),))
     if kind == "next":
-        return Formula("next", (draws.one_of(COMPARISONS), threshold(draws), draw_tree(draws, size - 1)))
+        return Formula("next", (draws.one_of(COMPARISONS), threshold(draws), draw_tree(draws, size - 1, labels, kinds)))
     left = draws.below(size)
-    parts = draw_tree(draws, left), draw_tree(draws, size - 1 - left)
+    parts = draw_tree(draws, left, labels, kinds), draw_tree(draws, size - 1 - left, labels, kinds)
     if kind != "until":
         return Formula(kind, parts)
     return Formula("until", (draws.one_of(COMPARISONS), threshold(draws), parts[0], bound(draws), parts[1]))
+
+
+def draw_leaf(draws, labels):
+    if not labels:
+        return draws.one_of([Formula("tt"), Formula("ff")])
+    return draws.mostly(Formula("label", (draws.one_of(labels),)), Formula("tt"), Formula("ff"))
 
 
 def threshold(draws):
@@ -107,7 +115,7 @@ def joins(line, token):
     return bool(last) and (last.isalnum() or last in b"_.") and (first.isalnum() or first in b"_.")
 
 
-def damaged(draws, tokens):
+def damaged(draws, tokens, labels=LABELS):
     """The tokens with one or two of them changed, left out, or with others between them."""
     tokens = list(tokens)
     for _ in range(draws.mostly(1, 2)):
@@ -116,15 +124,15 @@ def damaged(draws, tokens):
         if how == 0 and place < len(tokens):
             del tokens[place]
         elif how == 1 and place < len(tokens):
-            tokens[place] = other_token(draws)
+            tokens[place] = other_token(draws, labels)
         elif how == 2:
             tokens = tokens[:place]
         else:
-            tokens.insert(place, other_token(draws))
+            tokens.insert(place, other_token(draws, labels))
     return tokens
 
 
-def other_token(draws):
+def other_token(draws, labels):
     kind = draws.below(8)
     if kind == 0:
         return draws.one_of(NO_TOKENS)
@@ -132,22 +140,23 @@ def other_token(draws):
         return draws.one_of([no_number, too_fine, too_big])(draws)[:40]
     if kind == 2:
         return draws.one_of([b"1.0000001", b"2", b"10e-1", b"1e0", b"1.5"])
-    return draws.one_of(draws.one_of([UNKNOWN, RESERVED, SYMBOLS, SYMBOLS, LABELS]))
+    return draws.one_of(draws.one_of([UNKNOWN, RESERVED, SYMBOLS, SYMBOLS, labels or UNKNOWN]))
 
 
-def nested(draws, depth):
-    """A line with so many constructs round its last token."""
+def nested(draws, depth, inner):
+    """A line with so many constructs round its innermost token."""
     line, closing = b"", b""
+    constructs = [(b"!", b""), (b"(", b")"), (b"P{<1}[X ", b"]"), (b"P{>=.5}[" + inner + b" U ", b"]"), (b"P{>0}[", b" U " + inner + b"]")]
     for _ in range(depth):
-        front, back = draws.one_of([(b"!", b""), (b"(", b")"), (b"P{<1}[X ", b"]"), (b"P{>=.5}[a U ", b"]"), (b"P{>0}[", b" U a]")])
+        front, back = draws.one_of(constructs)
         line, closing = line + front, back + closing
-    return line + b"a" + closing
+    return line + inner + closing
 
 
-def draw_line(draws, number):
+def draw_line(draws, number, labels=LABELS):
     """The line of this number: most kinds come again and again, the long ones seldom."""
     if number % 40 == 39:
-        return nested(draws, draws.one_of([63, 64, 65, 66]))
-    tree = draw_tree(draws, draws.mostly(draws.between(1, 8), draws.between(9, 20)))
+        return nested(draws, draws.one_of([63, 64, 65, 66]), (labels or [b"tt"])[0])
+    tree = draw_tree(draws, draws.mostly(draws.between(1, 8), draws.between(9, 20)), labels)
     tokens = tokens_of(draws, tree)
-    return line_of(draws, damaged(draws, tokens) if draws.chance(1, 2) else tokens)
+    return line_of(draws, damaged(draws, tokens, labels) if draws.chance(1, 2) else tokens)

@@ -39,27 +39,28 @@ def uniformised(chain):
     return weights, total
 
 
-def jump_values(weights, total, goal):
-    """For 0, 1, 2, .. jumps: each state's probability of reaching the goal within them, in units of total^-jumps."""
+def jump_values(weights, total, live, goal):
+    """For 0, 1, 2, .. jumps: each state's probability of reaching the goal within them by live states, in units of total^-jumps."""
     values = [int(state in goal) for state in range(len(weights))]
     power = 1
     while True:
         yield values
-        power *= total
-        values = [power if state in goal else sum(share * values[target] for target, share in row)
-                  for state, row in enumerate(weights)]
+        earlier, power = values, power * total
+        values = [power * (state in goal) for state in range(len(weights))]
+        for state in live - goal:
+            values[state] = sum(share * earlier[target] for target, share in weights[state])
 
 
-def until_averages(chain, goal, load, counts):
+def until_averages(chain, live, goal, load, counts):
     """For each of the ascending counts n: each state's Poisson average over 0 to n jumps, and how little is missing.
 
-    The average and the average plus what is missing enclose the probability of reaching the goal.
+    The average and the average plus what is missing enclose the probability of reaching the goal by live states.
     """
     weights, total = uniformised(chain)
     # With w_k = load^k / k! scaled by den^n n!, the weighted sum and the sum of weights are whole numbers at each n.
     weight, weight_sum, sums = 1, 1, [0] * chain.states
     found, last = {}, counts[-1]
-    for jumps, values in zip(range(last + 1), jump_values(weights, total, goal)):
+    for jumps, values in zip(range(last + 1), jump_values(weights, total, live, goal)):
         if jumps > 0:
             growth = load.denominator * jumps
             weight *= load.numerator

@@ -1,12 +1,15 @@
 """What the program must print and end with, from the words, the files and the formula input alone."""
 from typing import NamedTuple, Optional
 
-from decimals import twelve_decimals
+from command import NoCommand, Options, read_command
+from decimals import Decimal, twelve_decimals
 from exact import horizon, next_probability, time_load
-from formulas import COMPARISONS, Next, Until, formula_text, read_formula
-from model_files import Chain, FileFault, read_lab, read_rew, read_tra
-from rounded import ONE, UNTIL_BITS, bounded_until_words, divide_up
+from language import LineFault, canonical_line, read_line
+from meaning import COMPARISONS, is_built, satisfying
+from model_files import Chain, FileFault, lines_of, read_lab, read_rew, read_tra, words_of
+from rounded import ONE, divide_up, until_words
 
+INPUT_LIMIT = 2 ** 20
 MOST_JUMPS = 16_384
 MOST_WORDS = 2 ** 23
 UNITS = 10 ** 12
@@ -17,33 +20,52 @@ USAGE = (b"usage: mrmc_any (ctmc M.tra M.lab | cmrm M.tra M.lab M.rew) [--worker
 NUMBER_FAULTS = ("Number NotNumber", "Number TooFine", "Number TooBig")
 FILE_FAULTS = {
     "tra": ("Header", "StatesRange", "TransitionsRange", "Count", "Word", "StateRange", *NUMBER_FAULTS, "Repeated", "RateRange",
-            "TooBig"),
+            "TooBig", "WatchState"),
     "lab": ("Header", "Name", "RepeatedName", "LabelsRange", "Word", "StateRange", "Undeclared", "TooBig"),
     "rew": ("Word", "StateRange", *NUMBER_FAULTS, "Repeated", "RewardScale", "TooBig"),
 }
 
-# Every kind of outcome, as it is counted.
+# Every kind of outcome, and of reply to a line, as they are counted.
 KINDS = [
-    "answered next", "answered until", "refused TooLong", "refused TooLarge", "usage",
+    "nothing asked", "all answered", "some refused", "refused FormulasLong", "usage",
     *(f"refused {file} {what}" for file, faults in FILE_FAULTS.items() for what in faults),
-    *(f"missing {file}" for file in FILE_FAULTS), "input failed", "output failed", "not built",
+    *(f"missing {file}" for file in FILE_FAULTS), "input failed", "output failed",
 ]
+ANSWERS = ["without operator", "next", "until"]
+REFUSALS = ["NotBuilt", "TooLong", "TooLarge", "Length", "Token", "Number", "Expected", "UnknownLabel", "Threshold", "Depth"]
 
 
-class Answered(NamedTuple):
-    """An answered until and what it was asked of."""
+class Asked(NamedTuple):
+    """An until that is answered: over which chain and sets of states, and with which options."""
     chain: Chain
+    live: frozenset
     goal: frozenset
-    formula: Until
+    time: Decimal
+    comparison: bytes
+    threshold: Decimal
+    options: Options
+
+    def load(self):
+        return time_load(self.chain, self.time)
+
+    def horizon(self):
+        return horizon(self.load(), self.options.bits)
+
+
+class Reply(NamedTuple):
+    """What is printed to one line of the input: of which kind it is, for counting, and of an until what was asked."""
+    kind: str
+    text: bytes
+    asked: Optional[Asked] = None
 
 
 class Outcome(NamedTuple):
-    """The kind, for counting; the exit status; the bytes on standard output; and how much of the input is read at most."""
+    """The kind, for counting; the exit status; the bytes on standard output; whether the input is read; and the replies."""
     kind: str
     status: int
     text: bytes
     reads_input: bool = False
-    answered: Optional[Answered] = None
+    replies: tuple = ()
 
 
 class FileMissing(Exception):
@@ -54,33 +76,13 @@ class FileRefused(Exception):
     """The file has this fault."""
 
 
-def names_of_files(words):
-    """The names that the words after the program's name give, by the files' endings; or None where they are no command."""
-    wanted = {(b"ctmc", 3): ("tra", "lab"), (b"cmrm", 4): ("tra", "lab", "rew")}.get((words[0], len(words))) if words else None
-    if wanted is None or not all(map(is_utf8, words)) or not all(map(may_name_file, words[1:])):
-        return None
-    return dict(zip(wanted, words[1:]))
-
-
-def is_utf8(word):
-    try:
-        word.decode("utf-8")
-    except UnicodeDecodeError:
-        return False
-    return True
-
-
-def may_name_file(word):
-    return word == b"-" or not word.startswith(b"-")
-
-
 def outcome_of(words, files, formula_input):
     """The outcome. `files` maps names to bytes, or to None where no bytes can be read; so is the formula input."""
-    names = names_of_files(words)
-    if names is None:
-        return Outcome("usage", 2, USAGE)
     try:
-        chain, labels = read_model(names, files)
+        command = read_command(words)
+        chain, labels = read_model(command, files)
+    except NoCommand:
+        return Outcome("usage", 2, USAGE)
     except FileMissing as missing:
         return Outcome(f"missing {missing}", 4, b"")
     except FileRefused as refused:
@@ -88,17 +90,16 @@ def outcome_of(words, files, formula_input):
         return Outcome(f"refused {file} {fault.what}", 3, b"refused %s line %d %s\n" % (file.encode(), fault.line, fault.what.encode()))
     if formula_input is None:
         return Outcome("input failed", 4, b"")
-    formula = read_formula(formula_input, labels.names)
-    if formula is None:
-        return Outcome("not built", 6, b"not built formula\n", True)
-    return formula_outcome(chain, frozenset(labels.marked[formula.label]), formula)
+    if len(formula_input) > INPUT_LIMIT:
+        return Outcome("refused FormulasLong", 1, b"refused FormulasLong\n", True)
+    return outcome_of_replies(tuple(replies_to(formula_input, chain, labels, command.options)))
 
 
-def read_model(names, files):
-    """The chain and the labels; the rewards, which no formula asks for, are read and checked all the same."""
+def read_model(command, files):
+    """The chain and the labels; the rewards, which no formula that is answered asks for, are read and checked all the same."""
     readers = {"tra": read_tra, "lab": read_lab, "rew": read_rew}
     found = {}
-    for file, name in names.items():
+    for file, name in command.names.items():
         text = files.get(name)
         if text is None:
             raise FileMissing(file)
@@ -107,38 +108,81 @@ def read_model(names, files):
             found[file] = readers[file](text, *states)
         except FileFault as fault:
             raise FileRefused(file, fault) from None
+        if command.options.state > found["tra"].states:
+            raise FileRefused(file, FileFault(0, "WatchState"))
     return found["tra"], found["lab"]
 
 
-def formula_outcome(chain, goal, formula):
-    if isinstance(formula, Next):
-        return Outcome("answered next", 0, answer_text(formula, [], next_answers(chain, goal, formula)), True)
-    last = horizon(time_load(chain, formula.time), UNTIL_BITS)
+def outcome_of_replies(replies):
+    text = b"".join(reply.text for reply in replies)
+    if all(reply.kind in ANSWERS for reply in replies):
+        return Outcome("all answered" if replies else "nothing asked", 0, text, True, replies)
+    return Outcome("some refused", 1, text, True, replies)
+
+
+def replies_to(formula_input, chain, labels, options):
+    """A reply to each line that isn't blank, up to one whose only word is `quit`."""
+    for number, line in enumerate(lines_of(formula_input), 1):
+        words = words_of(line)
+        if words == [b"quit"]:
+            return
+        if words:
+            yield reply_to(number, line, chain, labels, options)
+
+
+def reply_to(number, line, chain, labels, options):
+    try:
+        formula = read_line(line, labels.names)
+    except LineFault as fault:
+        return refusal(number, fault.what, b"column %d " % fault.column)
+    if not is_built(formula):
+        return refusal(number, "NotBuilt")
+    if formula.kind == "next":
+        return next_reply(formula, chain, labels)
+    if formula.kind == "until":
+        return until_reply(number, formula, chain, labels, options)
+    verdicts = said_of(satisfying(formula, chain.states, labels), chain.states)
+    return Reply("without operator", answer_text(formula, (b"%d %s\n" % numbered for numbered in enumerate(verdicts, 1))))
+
+
+def refusal(number, what, place=b""):
+    return Reply(what, b"refused line %d %s%s\n" % (number, place, what.encode()))
+
+
+def said_of(satisfied, states):
+    return (b"satisfied" if state in satisfied else b"refuted" for state in range(states))
+
+
+def next_reply(formula, chain, labels):
+    comparison, threshold, operand = formula.parts
+    goal = satisfying(operand, chain.states, labels)
+    probabilities = [next_probability(row, goal) for row in chain.rows]
+    meets, limit = COMPARISONS[comparison], threshold.fraction()
+    verdicts = [b"satisfied" if meets(probability, limit) else b"refuted" for probability in probabilities]
+    brackets = [rounded_out(probability.numerator, probability.numerator, probability.denominator) for probability in probabilities]
+    return Reply("next", answer_text(formula, state_lines(verdicts, brackets)))
+
+
+def until_reply(number, formula, chain, labels, options):
+    comparison, threshold, live, (_, time), goal = formula.parts
+    live, goal = (satisfying(operand, chain.states, labels) for operand in (live, goal))
+    asked = Asked(chain, live, goal, time, comparison, threshold, options)
+    last = asked.horizon()
     if last > MOST_JUMPS:
-        return Outcome("refused TooLong", 1, b"refused line 1 TooLong\n", True)
+        return refusal(number, "TooLong")
     if (last + 1) * chain.states > MOST_WORDS:
-        return Outcome("refused TooLarge", 1, b"refused line 1 TooLarge\n", True)
-    text = answer_text(formula, [b"horizon %d\n" % last], until_answers(chain, goal, formula))
-    return Outcome("answered until", 0, text, True, Answered(chain, goal, formula))
+        return refusal(number, "TooLarge")
+    words = until_words(chain, live, goal, time, options.bits)
+    verdicts = [verdict(comparison, threshold, *pair) for pair in words]
+    brackets = [rounded_out(*pair, ONE) for pair in words]
+    watched = [b"watch %d %s %s\n" % (place, *brackets[options.state - 1]) for place in range(1, options.watch + 1)]
+    text = answer_text(formula, [b"horizon %d\n" % last, *watched, *state_lines(verdicts, brackets)])
+    return Reply("until", text, asked)
 
 
-def next_answers(chain, goal, formula):
-    meets, threshold = COMPARISONS[formula.comparison], formula.threshold.fraction()
-    for row in chain.rows:
-        probability = next_probability(row, goal)
-        units = probability.numerator * UNITS
-        low, high = units // probability.denominator, divide_up(units, probability.denominator)
-        yield b"satisfied" if meets(probability, threshold) else b"refuted", low, high
-
-
-def until_answers(chain, goal, formula):
-    for lower, upper in bounded_until_words(chain, goal, formula.time):
-        yield verdict(formula, lower, upper), lower * UNITS // ONE, divide_up(upper * UNITS, ONE)
-
-
-def verdict(formula, lower, upper):
+def verdict(comparison, threshold, lower, upper):
     """What the bracket of two words says: whether all numbers between them meet the threshold, or none."""
-    meets, threshold = COMPARISONS[formula.comparison], formula.threshold
+    meets = COMPARISONS[comparison]
     # Compared crosswise. What holds at both ends holds between them, and so does its contrary.
     ends = {meets(word * 10 ** threshold.x, threshold.c * ONE) for word in (lower, upper)}
     if len(ends) == 2:
@@ -146,8 +190,14 @@ def verdict(formula, lower, upper):
     return b"satisfied" if True in ends else b"refuted"
 
 
-def answer_text(formula, horizon_lines, answers):
-    lines = [b"formula %s\n" % formula_text(formula), *horizon_lines]
-    lines += [b"%d %s %s %s\n" % (number, said, twelve_decimals(low), twelve_decimals(high))
-              for number, (said, low, high) in enumerate(answers, 1)]
-    return b"".join(lines)
+def rounded_out(lower, upper, whole):
+    """The two numbers, parts of a whole, as they are printed: rounded down and up to twelve decimals."""
+    return twelve_decimals(lower * UNITS // whole), twelve_decimals(divide_up(upper * UNITS, whole))
+
+
+def state_lines(verdicts, brackets):
+    return (b"%d %s %s %s\n" % (number, said, *bracket) for number, (said, bracket) in enumerate(zip(verdicts, brackets), 1))
+
+
+def answer_text(formula, lines):
+    return b"formula %s\n" % canonical_line(formula) + b"".join(lines)

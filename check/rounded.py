@@ -7,7 +7,6 @@ from exact import horizon, time_load, uniformised
 ONE = 2 ** 62
 FINE = 2 ** 50
 COARSE = 2 ** 14
-UNTIL_BITS = 30
 
 
 def divide_up(number, divisor):
@@ -57,20 +56,16 @@ class Mix:
         return lower, min(ONE, upper)
 
 
-def bounded_until_words(chain, goal, time):
-    """Each state's two words, round the probability of reaching the goal within the time."""
-    return cached_until_words(chain, frozenset(goal), time)
-
-
-@functools.lru_cache(maxsize=4)
-def cached_until_words(chain, goal, time):
+@functools.lru_cache(maxsize=32)
+def until_words(chain, live, goal, time, bits):
+    """Each state's two words, round the probability of reaching the goal by live states within the time."""
     load = time_load(chain, time)
-    last = horizon(load, UNTIL_BITS)
-    mix = Mix(load, last, UNTIL_BITS)
+    last = horizon(load, bits)
+    mix = Mix(load, last, bits)
     weights, total = uniformised(chain)
-    # A state that is always left for itself keeps the word 0 or 1 that it has at first, so it needs no steps; in a large
-    # chain with few transitions these are nearly all.
-    moving = [state for state in range(chain.states) if state not in goal and weights[state] != [(state, total)]]
+    # A state that isn't live, or is always left for itself, keeps the word 0 or 1 that it has at first, so it needs no steps;
+    # in a large chain with few transitions these are nearly all.
+    moving = [state for state in sorted(live - goal) if weights[state] != [(state, total)]]
     low_sums, high_sums = column_sums(weights, total, goal, moving, mix, last)
     words = [(ONE, ONE) if state in goal else mix.words(0, 0) for state in range(chain.states)]
     for state in moving:
