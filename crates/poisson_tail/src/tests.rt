@@ -207,6 +207,42 @@ fn weights_enclose_load_8192(rt: HostRuntime) {
     assert!(rt; enclose(&made, &exact));
 }
 
+// By how many words the two weights of a number of jumps lie apart at most.
+fn widest_gap(made: &Weights) -> u64 {
+    let mut widest = 0;
+    for (low, high) in made.low.as_slice().iter().zip(made.high.as_slice()) {
+        widest = high.wrapping_sub(*low).max(widest);
+    }
+    widest
+}
+
+// At the load 1 the weights of no jump, one below the mode, lie 4,096 words apart, where 4,098 are allowed so near the mode;
+// up to the horizon of 30 bits it is at most 32 times 4,096 words and 2 for each layer.
+#[test]
+fn weights_lie_near_each_other(rt: HostRuntime) {
+    let one = weights(rt.alloc(), &Load::new(1, 1), 32).expect(&rt, "memory");
+    let (low, high) = (one.low.as_slice(), one.high.as_slice());
+    assert_eq!(rt;
+        (low.first(), high.first()),
+        (Some(&(ONE - 4_096)), Some(&ONE))
+    );
+    for (num, den, last) in [
+        (0, 1, 30),
+        (1, 1, 32),
+        (1, 3, 31),
+        (15, 2, 45),
+        (300, 1, 630),
+        (8177, 1, 16_384),
+    ] {
+        let made = weights(rt.alloc(), &Load::new(num, den), last).expect(&rt, "memory");
+        assert_eq!(rt; horizon(&Load::new(num, den), 30), Some(last));
+        assert!(rt;
+            widest_gap(&made) <= 32 * 4_096 + 2 * u64::from(last),
+            "at {num}/{den}"
+        );
+    }
+}
+
 // The horizons of a load for 8, 30 and 48 bits.
 fn horizons(load: &Load) -> [Option<u32>; 3] {
     [horizon(load, 8), horizon(load, 30), horizon(load, 48)]

@@ -25,6 +25,7 @@ use Rattle.step_core.specs.PlanTables.{layer_at, AreTablesOf}
 use Rattle.step_core.specs.SoundFrame.{IsSoundRow, IsSoundFrame}
 use Rattle.step_core.specs.SoundPlan.{IsSoundPlan, starts_at_one}
 use Rattle.step_core.specs.TableLists.{TableLists}
+use Rattle.step_core.specs.Walk.{arrives, goes}
 use Rattle.step_core.specs.WeightLists.{WeightLists}
 use Rattle.step_core.proofs.Entries.{entries_sum}
 use Rattle.step_core.proofs.Layers.{row_high-same}
@@ -108,8 +109,8 @@ module _ (plan : PlanLists) (tables : TableLists) (j : Jumps) (k s : ℕ) (sound
       (are.high.layer k within).words s inside
       ∙ high_table-same rows live goals (slice_index plan.start_upper) (set_words reach) start k s inside in
       let closed : ReachesBack rows live goals reach = record {
-        goal_in = λ t l h. sound.reach t l;
-        back = λ t u l i g p h. sound.reach t l;
+        goal_in = λ t l h. (sound.reach.exact t l).1 (arrives h);
+        back = λ t u l i g p h. (sound.reach.exact t l).1 (goes g i p ((sound.reach.exact u i).0 h));
       } in
       let there : s < j.states = subst (λ (m : ℕ). s < m) stand.same_states inside in
       let above = last_above rows j stand stochastic some live live goals goals reach (λ t h. h) (λ t h. h) closed k n s there in

@@ -1,16 +1,20 @@
 -- Two small plans are sound.
-use Rattle.std.proofs.Common.{◌≡◌, ℕ, zero, suc, ◌+◌, ◌^◌, ◌≤◌, ◌<◌, Bool, true, false, List, [], ◌∷◌, length, refl, lit<, lit≤, arith}
-use Rattle.std.specs.Prelude.{slice_index, IsTrue}
+use Rattle.std.proofs.Common.{◌≡◌, ℕ, zero, suc, ◌+◌, ◌^◌, ◌≤◌, ◌<◌, Bool, true, false, List, [], ◌∷◌, length, refl, sym, inl, inr, subst, lit<, lit≤, arith}
+use Rattle.std.specs.Prelude.{slice_index, IsTrue, ◌↔◌}
 use Rattle.std.specs.List.{All}
+use Rattle.std.proofs.lemmas.Bool.{false≢true, cases_eq, ne_eqb}
 use Rattle.std.proofs.lemmas.List.Elements.{All-nil, All-cons}
 use Rattle.ctmc_semantics.specs.RoundedTables.{one_word}
 use Rattle.ctmc_semantics.specs.Sets.{holds_at}
 use Rattle.round_out.specs.declared.entry.Entry.{Entry}
 use Rattle.step_core.specs.declared.mix.Mix.TheVariants.{Poisson, Last}
 use Rattle.step_core.specs.FrameLists.{RowLists, SetLists}
+use Rattle.step_core.specs.FrameRows.{number_to, frame_rows}
 use Rattle.step_core.specs.PlanLists.{PlanLists}
+use Rattle.step_core.specs.Reach.{CanReach}
 use Rattle.step_core.specs.SoundFrame.{Ascend, IsSoundRow, AreSoundSets}
 use Rattle.step_core.specs.SoundPlan.{IsSoundPlan}
+use Rattle.step_core.specs.Walk.{arrives, goes}
 use Rattle.step_core.proofs.Layers.{set_layer}
 
 abbrev pub jump : ℕ → ℕ → Entry
@@ -75,9 +79,9 @@ first_two = record {
       8;
 }
 
-two_reach : (s : ℕ) → s < 2 → IsTrue (holds_at (true ∷ true ∷ []) s)
-two_reach zero l = refl
-two_reach (suc zero) l = refl
+two_reach : (s : ℕ) → s < 2 → IsTrue (holds_at first_two.reach s) ↔ CanReach first_two.frame s
+two_reach zero l = (λ h. goes {t = 1} refl (lit< tt) (lit< tt) (arrives refl), λ w. refl)
+two_reach (suc zero) l = (λ h. arrives refl, λ w. refl)
 two_reach (suc (suc s)) l = absurd (omega arith)
 
 ones : (k : ℕ) → k ≤ 4 → slice_index five_ones k ≡ one_word
@@ -102,8 +106,7 @@ first_two_sound = record {
   few_layers = lit≤ tt;
   start_states = refl;
   start = λ s l. (set_layer 2 (false ∷ true ∷ []) refl).words s l;
-  reach_states = refl;
-  reach = two_reach;
+  reach = record { states = refl; exact = two_reach };
   mix = record {
     weights_sound = record {
       low_layers = refl;
@@ -136,16 +139,32 @@ first_four = record {
     };
   };
   layers = 4;
-  start_upper = 2 ^ 62 ∷ 2 ^ 62 ∷ 2 ^ 62 ∷ 2 ^ 62 ∷ [];
-  reach = true ∷ true ∷ true ∷ true ∷ [];
+  start_upper = 2 ^ 62 ∷ 2 ^ 62 ∷ 0 ∷ 2 ^ 62 ∷ [];
+  reach = true ∷ true ∷ false ∷ true ∷ [];
   mix = Last;
 }
 
-four_reach : (s : ℕ) → s < 4 → IsTrue (holds_at (true ∷ true ∷ true ∷ true ∷ []) s)
-four_reach zero l = refl
-four_reach (suc zero) l = refl
-four_reach (suc (suc zero)) l = refl
-four_reach (suc (suc (suc zero))) l = refl
+-- the third state jumps to itself alone
+third_stays : (t : ℕ) → 0 < number_to (jump 2 4 ∷ []) t → t ≡ 2
+third_stays t h =
+    elim (cases_eq 2 t) [
+      | inl is ↦ sym is
+      | inr other ↦ absurd (let none = rw (ne_eqb 2 t other) at h in omega (arith, none))
+    ]
+
+third_unable : (s : ℕ) → s ≡ 2 → CanReach first_four.frame s → ⊥
+third_unable s is (arrives here) = absurd (false≢true (subst (λ t. IsTrue (holds_at first_four.frame.sets.goal_may t)) is here))
+third_unable s is (goes {t} is_live inside positive walk) =
+    third_unable t (third_stays t (subst (λ u. 0 < (frame_rows first_four.frame.rows).num u t) is positive)) walk
+
+from_first : CanReach first_four.frame 0
+from_first = goes {t = 1} refl (lit< tt) (lit< tt) (arrives refl)
+
+four_reach : (s : ℕ) → s < 4 → IsTrue (holds_at first_four.reach s) ↔ CanReach first_four.frame s
+four_reach zero l = (λ h. from_first, λ w. refl)
+four_reach (suc zero) l = (λ h. arrives refl, λ w. refl)
+four_reach (suc (suc zero)) l = (λ h. absurd (false≢true h), λ w. absurd (third_unable 2 refl w))
+four_reach (suc (suc (suc zero))) l = (λ h. goes {t = 0} refl (lit< tt) (lit< tt) from_first, λ w. refl)
 four_reach (suc (suc (suc (suc s)))) l = absurd (omega arith)
 
 all_mixed : (P : Entry → Type 0) → P (jump 0 2) → P (jump 1 1) → P (jump 2 1) → All P mixed_entries
@@ -179,9 +198,8 @@ first_four_sound = record {
   some_layer = lit≤ tt;
   few_layers = lit≤ tt;
   start_states = refl;
-  start = λ s l. (set_layer 4 (true ∷ true ∷ true ∷ true ∷ []) refl).words s l;
-  reach_states = refl;
-  reach = four_reach;
+  start = λ s l. (set_layer 4 first_four.reach refl).words s l;
+  reach = record { states = refl; exact = four_reach };
   mix = tt;
 }
 

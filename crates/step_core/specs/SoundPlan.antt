@@ -1,9 +1,10 @@
 -- When a plan is sound.
-use Rattle.std.specs.Prelude.{◌≡◌, ℕ, suc, ◌<◌, ◌≤◌, Bool, IsTrue, length, slice_index}
+use Rattle.std.specs.Prelude.{◌≡◌, ℕ, suc, ◌<◌, ◌≤◌, Bool, length, slice_index}
 use Rattle.ctmc_semantics.specs.RoundedTables.{one_word, set_words}
 use Rattle.ctmc_semantics.specs.Sets.{holds_at}
 use Rattle.step_core.specs.declared.mix.Mix.{Mix}
 use Rattle.step_core.specs.declared.mix.Mix.TheVariants.{Poisson, Last}
+use Rattle.step_core.specs.Reach.{TellsReach}
 use Rattle.step_core.specs.SoundFrame.{IsSoundFrame}
 use Rattle.step_core.specs.PlanLists.{PlanLists}
 use Rattle.step_core.specs.WeightLists.{WeightLists}
@@ -33,13 +34,13 @@ IsSoundMix last (Poisson weights bits) = IsSoundPoisson last weights bits
 IsSoundMix last Last = Unit {0}
 
 -- the states whose upper words start at 1: for a bounded until those that may be the goal,
--- for an unbounded one those that may reach it
+-- for an unbounded one those that can reach it
 abbrev pub starts_at_one : Mix → (ℕ → Bool) → (ℕ → Bool) → ℕ → Bool
 starts_at_one (Poisson weights bits) goal reach = goal
 starts_at_one Last goal reach = reach
 
--- a plan is sound: it has 1 to 16,384 layers over a sound frame, and its upper words start rightly;
--- for now every state counts as one that may reach the goal
+-- a plan is sound: it has 1 to 16,384 layers over a sound frame, it tells which states can reach the goal, and its upper words start
+-- rightly
 pub record IsSoundPlan (plan : PlanLists) : Type 0 where
   pub frame : IsSoundFrame plan.frame
   pub some_layer : 1 ≤ plan.layers
@@ -48,6 +49,5 @@ pub record IsSoundPlan (plan : PlanLists) : Type 0 where
   pub start :
       (s : ℕ) → s < length plan.frame.rows
       → slice_index plan.start_upper s ≡ set_words (starts_at_one plan.mix (holds_at plan.frame.sets.goal_may) (holds_at plan.reach)) s
-  pub reach_states : length plan.reach ≡ length plan.frame.rows
-  pub reach : (s : ℕ) → s < length plan.frame.rows → IsTrue (holds_at plan.reach s)
+  pub reach : TellsReach plan.frame plan.reach
   pub mix : IsSoundMix plan.layers plan.mix

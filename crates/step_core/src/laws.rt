@@ -1,6 +1,7 @@
 // The laws of sound plans, each the contract of a function.
 ghost use Rattle.step_core.specs.PlanLaws.{FrameRowsAreWhole, LowTableRounds, HighTableRounds, BoundedHighTableRounds};
 ghost use Rattle.step_core.specs.PlanLaws.{UnboundedHighTableIsAbove};
+ghost use Rattle.step_core.specs.ReachLaws.{WalksAreFound};
 
 /// The numbers of each row of a sound frame add up to its divisor, which is positive.
 pub fn frame_rows_are_whole()
@@ -14,4 +15,10 @@ pub fn plan_tables_round()
     ensures high { HighTableRounds }
     ensures bounded { BoundedHighTableRounds }
     ensures unbounded { UnboundedHighTableIsAbove }
+{}
+
+/// Whether a walk leads from a state to a goal is decided by letting one state after another stand
+/// between.
+pub fn walks_are_found()
+    ensures { WalksAreFound }
 {}

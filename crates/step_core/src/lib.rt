@@ -17,7 +17,7 @@ mod weights;
 
 pub use bracket::Bracket;
 pub use frame::Frame;
-pub use laws::{frame_rows_are_whole, plan_tables_round};
+pub use laws::{frame_rows_are_whole, plan_tables_round, walks_are_found};
 pub use mix::Mix;
 pub use one_thread::{plain_tables, set_layer};
 pub use plan::Plan;

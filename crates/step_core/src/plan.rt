@@ -5,8 +5,8 @@ use std::marker::Model;
 /// All that the computation of an until needs.
 ///
 /// `layers` is the number of jumps to look at. `start_upper` has each state's upper word within no
-/// jump, in units of `2^-62`. `reach` is false only at states that can't reach the goal. Contracts
-/// see the lists.
+/// jump, in units of `2^-62`. `reach` is true at the states from which a walk through states that
+/// may be live leads to one that may be the goal. Contracts see the lists.
 #[derive(Debug, Drop)]
 pub struct Plan {
     pub frame: Frame,

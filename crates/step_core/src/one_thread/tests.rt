@@ -91,8 +91,8 @@ fn four_states(alloc: Global) -> Result<Plan, AllocError>
     Ok(Plan {
         frame: Frame { rows, sets },
         layers: 4,
-        start_upper: vec![in alloc; ONE, ONE, ONE, ONE]?,
-        reach: vec![in alloc; true, true, true, true]?,
+        start_upper: vec![in alloc; ONE, ONE, 0, ONE]?,
+        reach: vec![in alloc; true, true, false, true]?,
         mix: Mix::Last,
     })
 }
@@ -116,18 +116,27 @@ fn an_unbounded_until_rises_from_its_goal(rt: HostRuntime) -> Result<(), Fail> {
     let plan = four_states(rt.alloc())?;
     let tables = plain_tables(rt.alloc(), &plan)?;
     let sixteenth = QUARTER / 4;
-    let layers = [
+    let low = [
         [0, ONE, 0, 0],
         [QUARTER, ONE, 0, 0],
         [6 * sixteenth, ONE, 0, QUARTER],
         [7 * sixteenth, ONE, 0, 6 * sixteenth],
         [HALF - sixteenth / 2, ONE, 0, 7 * sixteenth],
     ];
+    let high = [
+        [ONE, ONE, 0, ONE],
+        [12 * sixteenth, ONE, 0, ONE],
+        [10 * sixteenth, ONE, 0, 12 * sixteenth],
+        [9 * sixteenth, ONE, 0, 10 * sixteenth],
+        [HALF + sixteenth / 2, ONE, 0, 9 * sixteenth],
+    ];
     assert_eq!(rt; tables.low.len(), 5);
     assert_eq!(rt; tables.high.len(), 5);
-    for (layer, words) in layers.iter().enumerate() {
+    for (layer, words) in low.iter().enumerate() {
         assert_eq!(rt; tables.low[layer].as_slice(), words.as_slice());
-        assert_eq!(rt; tables.high[layer].as_slice(), [ONE; 4].as_slice());
+    }
+    for (layer, words) in high.iter().enumerate() {
+        assert_eq!(rt; tables.high[layer].as_slice(), words.as_slice());
     }
     Ok(())
 }
