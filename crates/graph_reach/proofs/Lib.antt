@@ -1,0 +1,5 @@
+pub mod Counts
+pub mod Places
+pub mod ReachLemmas
+pub mod SearchLemmas
+pub mod SmallFrame
