@@ -1,0 +1,4 @@
+pub mod MixLaws
+pub mod MixNumbers
+pub mod Mixed
+pub mod SideBySide

@@ -1,0 +1,17 @@
+//! The mix of a state's columns: the bracket that the words of its layers make.
+#![tactic(auto)]
+
+mod laws;
+mod mixer;
+mod mixers;
+mod quotients;
+mod settled;
+mod sums;
+#[cfg(test)]
+mod tests;
+mod units;
+
+pub use laws::{mix_rises, rest_shrinks};
+pub use mixer::Mixer;
+pub use mixers::Mixers;
+pub use settled::settle;
