@@ -11,12 +11,12 @@ use Rattle.ctmc_semantics.specs.Units.{units_down, units_up}
 use Rattle.ctmc_semantics.specs.Value.{NeverFalls, AreFractions, ValueMeets, ValueFails}
 use Rattle.ctmc_semantics.specs.VerdictLaws.{Decides}
 use Rattle.ctmc_semantics.specs.Verdict.{last_to_meet, BracketSatisfies, BracketRefutes}
-use Rattle.ctmc_semantics.specs.WordBracket.{WordBracket, word_bracket}
+use Rattle.ctmc_semantics.specs.WordBracket.{WordBracket, word_bracket, settle}
 use Rattle.ctmc_semantics.proofs.ContainsLemmas.{enclosing_contains, rounded_down, rounded_up, rounded_out_encloses}
 use Rattle.ctmc_semantics.proofs.Thresholds.{test_right, opposite_not}
 use Rattle.ctmc_semantics.proofs.VerdictLemmas.{bounded_decided, failing_not_meeting, undecided_inside}
-use Rattle.session.specs.BracketAnswer.{decided_verdict, bracket_verdict}
-use Rattle.session.specs.ExactState.{IsExactNext, IsExactUntil}
+use Rattle.session.specs.BracketAnswer.{decided_verdict, bracket_verdict, printed_units}
+use Rattle.session.specs.ExactState.{IsExactNext, IsExactUntil, IsSettled}
 use Rattle.session.specs.NextAnswer.{point, next_answer}
 use Rattle.session.specs.UntilAnswer.{words_answer}
 use Rattle.session.specs.declared.report.Verdict.{Verdict}
@@ -85,6 +85,17 @@ next_answer_exact by p q positive =
     }
 
 -- ---- until
+-- what needs no counting is printed exactly
+pub is_settled : (is_goal reached : Bool) (mixed : WordBracket) (sure out_of_reach : Type 0) → (sure → is_goal ≡ true)
+    → (out_of_reach → (is_goal ≡ false) × (reached ≡ false))
+    → IsSettled sure out_of_reach (printed_units (word_bracket (settle is_goal reached mixed)))
+is_settled true reached mixed sure out s o = record { one = λ h. (refl, refl); none = λ h. absurd (false≢true (sym (o h).0)) }
+is_settled false true mixed sure out s o = record {
+  one = λ h. absurd (false≢true (s h));
+  none = λ h. absurd (false≢true (sym (o h).1));
+}
+is_settled false false mixed sure out s o = record { one = λ h. absurd (false≢true (s h)); none = λ h. (refl, refl) }
+
 words_have_ends : (w : WordBracket) → HasEnds (word_bracket w)
 words_have_ends w = record { low = omega arith; high = omega arith }
 
@@ -109,8 +120,10 @@ module _ (by : Comparison) (last bits : ℕ) (x : ℕ → Fraction) (q : Fractio
   open_threshold e =
       ((λ s. satisfied_not_undecided (sym (says.satisfied.1 s) ∙ e)), (λ r. refuted_not_undecided (sym (says.refuted.1 r) ∙ e)))
 
-  pub words_exact : w.upper ≤ w.lower + greatest_width last bits → IsExactUntil by last bits x q (words_answer by w q)
-  words_exact narrow =
+  pub words_exact : (sure out_of_reach : Type 0) → w.upper ≤ w.lower + greatest_width last bits
+      → IsSettled sure out_of_reach (printed_units b)
+      → IsExactUntil by last bits x sure out_of_reach q (words_answer by w q)
+  words_exact sure out_of_reach narrow settled =
       let encloses = rounded_out_encloses b (units_down b.low) (units_up b.high) printed in
       record {
         contains = λ n h. enclosing_contains _ b (x n) ends encloses (contains n h);
@@ -127,4 +140,5 @@ module _ (by : Comparison) (last bits : ℕ) (x : ℕ → Fraction) (q : Fractio
           satisfied = says.satisfied;
           refuted = says.refuted;
         };
+        settled = settled;
       }

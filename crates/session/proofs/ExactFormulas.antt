@@ -28,19 +28,19 @@ use Rattle.decimal_text.specs.DecimalNumber.{DecimalNumber}
 use Rattle.model_core.specs.Model.{LabelledChain}
 use Rattle.poisson_tail.specs.declared.layers.TheConstants.{MOST_LAYERS}
 use Rattle.session.specs.Answer.{AnswerLists}
-use Rattle.session.specs.ExactAnswer.{IsSo, IsDecided, AreExactAt, ShowsNext, AreWatched, ShowsUntil, ShowsExactly, IsExactAnswer, bracket_of}
+use Rattle.session.specs.ExactAnswer.{IsSo, IsDecided, AreExactAt, ShowsNext, AreWatched, ShowsUntil, IsOutOfReach, ShowsExactly, IsExactAnswer, bracket_of}
 use Rattle.session.specs.ExactState.{IsExactNext, IsExactUntil}
 use Rattle.session.specs.FormulaAnswer.{Answers, Refuses, unless_refused, is_built, truth_verdict, verdicts_answer, shown_answer, watched_answer, next_states, until_states, formula_answer}
 use Rattle.session.specs.NextAnswer.{next_answer}
 use Rattle.session.specs.UntilAnswer.{state_words, words_answer}
-use Rattle.session.specs.UntilPlan.{plan_refusal, until_refusal}
 use Rattle.session.specs.declared.report.Printed.{Printed}
 use Rattle.session.specs.declared.report.Verdict.{Verdict}
 use Rattle.session.specs.declared.report.Verdict.TheVariants.{Satisfied, Refuted, Undecided}
 use Rattle.session.specs.declared.state_answer.StateAnswer.{StateAnswer}
-use Rattle.session.specs.declared.uniformise.Refusal.{Refusal}
-use Rattle.session.specs.declared.uniformise.Refusal.TheVariants.{TooLong, TooLarge}
-use Rattle.session.specs.declared.uniformise.TheConstants.{MOST_WORDS}
+use Rattle.step_core.specs.declared.plan_error.PlanError.{PlanError}
+use Rattle.step_core.specs.declared.plan_error.PlanError.TheVariants.{TooLong, TooLarge}
+use Rattle.uniformise.specs.TimePlan.{plan_refusal, time_refusal}
+use Rattle.uniformise.specs.declared.time_bound.TheConstants.{MOST_WORDS}
 use Rattle.session.proofs.ExactAnswers.{next_answer_exact}
 use Rattle.session.proofs.FormulaAnswers.{plain_answered}
 use Rattle.session.proofs.Verdicts.{until_exact}
@@ -55,7 +55,7 @@ some_same x y e = cc
 same_answers : (a b : AnswerLists) → Answers a ≡ Answers b → a ≡ b
 same_answers a b e = cc
 
-refused_not_answered : (refusal : Refusal) (answer : AnswerLists) → Refuses refusal ≡ Answers answer → ⊥
+refused_not_answered : (refusal : PlanError) (answer : AnswerLists) → Refuses refusal ≡ Answers answer → ⊥
 refused_not_answered refusal answer e = cc
 
 -- ---- what stands at a place of a list of all states
@@ -234,7 +234,7 @@ few_layers last states e = by_test (nat_lt MOST_LAYERS last) refl e
     by_test true is e = absurd (none_not_some TooLong (sym e))
     by_test false is e = omega (arith, ltb-false MOST_LAYERS last is)
 
-unrefused : (refusal : Option Refusal) (due answer : AnswerLists) → unless_refused refusal due ≡ Answers answer
+unrefused : (refusal : Option PlanError) (due answer : AnswerLists) → unless_refused refusal due ≡ Answers answer
     → (refusal ≡ None) × (due ≡ answer)
 unrefused None due answer e = (refl, same_answers due answer e)
 unrefused (Some refusal) due answer e = absurd (refused_not_answered refusal answer e)
@@ -258,7 +258,13 @@ module _ (over : LabelledChain) (options : Options) (op : Op) (q t : DecimalNumb
   until_at s =
       words_answer by (state_words over.chain (load_of over t) options.bits (holds_at (truths over f)) (holds_at (truths over g)) s) limit
 
-  until_exact_at : (s : ℕ) → s < over.chain.states → IsExactUntil by last options.bits (value s) limit (until_at s)
+  abbrev sure : ℕ → Type 0
+  sure s = IsTrue (holds_at (truths over g) s)
+
+  abbrev out : ℕ → Type 0
+  out = IsOutOfReach over.chain (holds_at (truths over f)) (holds_at (truths over g))
+
+  until_exact_at : (s : ℕ) → s < over.chain.states → IsExactUntil by last options.bits (value s) (sure s) (out s) limit (until_at s)
   until_exact_at s l =
       until_exact over.chain (load_of over t) options.bits (holds_at (truths over f)) (holds_at (truths over g)) s
       (power_of_ten (over.rate_decimals + t.x)) few_bits l by limit (power_of_ten q.x) short
@@ -287,12 +293,12 @@ module _ (over : LabelledChain) (options : Options) (op : Op) (q t : DecimalNumb
       (sym (part_read until_at bracket_part over.chain.states options.state (record { low = 0; high = 0 }) state))
       (are_watched options.watch last (value options.state) (until_at options.state).bracket (until_exact_at options.state state).contains)
 
-  until_shows : ShowsUntil over.chain.states options by last value limit due
+  until_shows : ShowsUntil over.chain.states options by last value sure out limit due
   until_shows = record {
     watched = watched_due;
     states = map bracket_part (answers until_at over.chain.states);
     shown = refl;
-    exact = exact_at until_at over.chain.states (λ s. IsExactUntil by last options.bits (value s) limit) until_exact_at;
+    exact = exact_at until_at over.chain.states (λ s. IsExactUntil by last options.bits (value s) (sure s) (out s) limit) until_exact_at;
     watches =
         subst (λ o. IsSomeAnd o (λ printed. AreWatched options.watch last (value options.state) printed watched_due))
         (sym (part_here until_at bracket_part over.chain.states options.state state)) watched_so;
@@ -303,7 +309,8 @@ module _ (over : LabelledChain) (options : Options) (op : Op) (q t : DecimalNumb
     each_state = parts_counted until_at verdict_part over.chain.states;
     so = λ xs stands. so_at until_at over.chain.states (holds_at xs) (until_so xs stands);
     shows = λ ys zs stands too.
-        subst₂ (λ ls rs. ShowsUntil over.chain.states options by last (time_values over t (holds_at ls) (holds_at rs)) limit due)
+        subst₂ (λ ls rs. ShowsUntil over.chain.states options by last (time_values over t (holds_at ls) (holds_at rs))
+        (λ s. IsTrue (holds_at rs s)) (IsOutOfReach over.chain (holds_at ls) (holds_at rs)) limit due)
         (one_meaning over f (truths over f) ys (operand_stands over f plain) stands)
         (one_meaning over g (truths over g) zs (operand_stands over g other) too) until_shows;
   }
@@ -320,7 +327,7 @@ formula_exact over options (disjunction f g) answer built few state e = plain_ex
 formula_exact over options (next op q f) answer built few state e = next_exact over options op q f built answer e
 formula_exact over options (until op q f (Time t) g) answer built few state e =
     let plain = and_parts (is_propositional f) (is_propositional g) built in
-    let given = unrefused (until_refusal over.chain over.rate_decimals options.bits t) _ answer e in
+    let given = unrefused (time_refusal over.chain over.rate_decimals options.bits t) _ answer e in
     subst (IsExactAnswer over options (until op q f (Time t) g)) given.1
     (until_answer_exact over options op q t f g plain.0 plain.1 few state
     (few_layers (horizon (load_of over t) options.bits) over.chain.states given.0))

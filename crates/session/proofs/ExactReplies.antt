@@ -11,7 +11,7 @@ use Rattle.session.specs.Answer.{AnswerLists}
 use Rattle.session.specs.ExactReply.{HasNoPlan, IsExactReply, IsExactTo}
 use Rattle.session.specs.FormulaAnswer.{FormulaAnswer, Answers, Refuses, unless_refused, formula_answer, is_built}
 use Rattle.session.specs.LineReply.{LineReply, Answered, Faulty, NotBuilt, Refused, NumberedReply, built_reply, IsLineReply, IsReplyTo}
-use Rattle.session.specs.declared.uniformise.Refusal.{Refusal}
+use Rattle.step_core.specs.declared.plan_error.PlanError.{PlanError}
 use Rattle.session.proofs.ExactFormulas.{formula_exact}
 use Rattle.text_lines.specs.Lines.{LineText}
 
@@ -36,25 +36,26 @@ tells_unbuilt names f true (Answers a) e = cc
 tells_unbuilt names f true (Refuses r) e = cc
 
 -- the formula is built, and is refused for this reason
-record TellsRefusal (built : Bool) (answer : FormulaAnswer) (refusal : Refusal) : Type 0 where
+record TellsRefusal (built : Bool) (answer : FormulaAnswer) (refusal : PlanError) : Type 0 where
   is_built : built ≡ true
   is : answer ≡ Refuses refusal
 
-tells_refusal : (names : List (List ℕ)) (f : Tree) (built : Bool) (answer : FormulaAnswer) (refusal : Refusal)
+tells_refusal : (names : List (List ℕ)) (f : Tree) (built : Bool) (answer : FormulaAnswer) (refusal : PlanError)
     → Refused refusal ≡ (if built then built_reply names f answer else NotBuilt) → TellsRefusal built answer refusal
 tells_refusal names f false answer refusal e = cc
 tells_refusal names f true (Answers a) refusal e = cc
 tells_refusal names f true (Refuses r) refusal e = record { is_built = refl; is = cc }
 
-refused_by : (refusal : Option Refusal) (answer : AnswerLists) (r : Refusal) → unless_refused refusal answer ≡ Refuses r → refusal ≡ Some r
+refused_by : (refusal : Option PlanError) (answer : AnswerLists) (r : PlanError) → unless_refused refusal answer ≡ Refuses r
+    → refusal ≡ Some r
 refused_by None answer r e = cc
 refused_by (Some refusal) answer r e = cc
 
-answers_refuse : (answer : AnswerLists) (r : Refusal) → Answers answer ≡ Refuses r → ⊥
+answers_refuse : (answer : AnswerLists) (r : PlanError) → Answers answer ≡ Refuses r → ⊥
 answers_refuse answer r e = cc
 
 module _ (over : LabelledChain) (options : Options) where
-  no_plan : (f : Tree) (r : Refusal) → IsTrue (is_built f) → formula_answer over options f ≡ Refuses r → HasNoPlan over options f r
+  no_plan : (f : Tree) (r : PlanError) → IsTrue (is_built f) → formula_answer over options f ≡ Refuses r → HasNoPlan over options f r
   no_plan truth r built e = answers_refuse _ r e
   no_plan falsehood r built e = answers_refuse _ r e
   no_plan (label j) r built e = answers_refuse _ r e

@@ -21,7 +21,7 @@ use Rattle.session.specs.FormulaAnswer.{Answers, unless_refused, formula_answer,
 use Rattle.session.specs.NextAnswer.{next_answers}
 use Rattle.session.specs.Report.{IsPrintable, ArePrintable, IsWritable}
 use Rattle.session.specs.UntilAnswer.{state_words, words_answer, until_answers}
-use Rattle.session.specs.UntilPlan.{until_refusal}
+use Rattle.uniformise.specs.TimePlan.{time_refusal}
 use Rattle.session.specs.declared.report.Printed.{Printed}
 use Rattle.session.specs.declared.report.Verdict.TheVariants.{Undecided}
 use Rattle.session.specs.declared.state_answer.StateAnswer.{StateAnswer}
@@ -49,25 +49,22 @@ module _ (over : LabelledChain) (options : Options) where
     next_answered answer is = sym (ap Answers (is ∙ ap (shown_answer None []) next_states_are))
 
   -- ---- an until, from the lists of its operands
-  module _ (op : Op) (q t : DecimalNumber) (f g : Tree) (live goal : List Bool) (load : Fraction) (bits last : ℕ)
-      (is_live : live ≡ truths over f) (is_goal : goal ≡ truths over g) (is_load : load ≡ load_of over t) (are_bits : bits ≡ options.bits)
-      (is_last : last ≡ horizon load bits) (unrefused : until_refusal over.chain over.rate_decimals options.bits t ≡ None)
+  module _ (op : Op) (q t : DecimalNumber) (f g : Tree) (live goal : List Bool) (last : ℕ)
+      (is_live : live ≡ truths over f) (is_goal : goal ≡ truths over g) (is_last : last ≡ horizon (load_of over t) options.bits)
+      (unrefused : time_refusal over.chain over.rate_decimals options.bits t ≡ None)
       (states : List StateAnswer)
-      (are : states ≡ until_answers over.chain load bits (holds_at live) (holds_at goal) (comparison_of op) (decimal_fraction q.c q.x))
+      (are :
+      states
+      ≡ until_answers over.chain (load_of over t) options.bits (holds_at live) (holds_at goal) (comparison_of op)
+      (decimal_fraction q.c q.x))
     where
-      abbrev answered : Fraction → ℕ → List Bool → List Bool → List StateAnswer
-      answered l n xs ys = until_answers over.chain l n (holds_at xs) (holds_at ys) (comparison_of op) (decimal_fraction q.c q.x)
+      abbrev answered : List Bool → List Bool → List StateAnswer
+      answered xs ys =
+          until_answers over.chain (load_of over t) options.bits (holds_at xs) (holds_at ys) (comparison_of op) (decimal_fraction q.c q.x)
 
       until_states_are : states ≡ until_states over options.bits op q t f g
       until_states_are =
-          are
-          ∙ ap (λ (l : Fraction). answered l bits live goal) is_load
-          ∙ ap (λ (n : ℕ). answered (load_of over t) n live goal) are_bits
-          ∙ ap (λ (xs : List Bool). answered (load_of over t) options.bits xs goal) is_live
-          ∙ ap (answered (load_of over t) options.bits (truths over f)) is_goal
-
-      last_is : last ≡ horizon (load_of over t) options.bits
-      last_is = is_last ∙ ap (λ (l : Fraction). horizon l bits) is_load ∙ ap (horizon (load_of over t)) are_bits
+          are ∙ ap (λ (xs : List Bool). answered xs goal) is_live ∙ ap (answered (truths over f)) is_goal
 
       pub until_answered : (answer : AnswerLists) → answer ≡ watched_answer options last states
           → formula_answer over options (until op q f (Time t) g) ≡ Answers answer
@@ -75,7 +72,7 @@ module _ (over : LabelledChain) (options : Options) where
           let due = watched_answer options (horizon (load_of over t) options.bits) (until_states over options.bits op q t f g) in
           ap (λ r. unless_refused r due) unrefused
           ∙ sym (ap Answers (is
-          ∙ ap (λ (n : ℕ). watched_answer options n states) last_is
+          ∙ ap (λ (n : ℕ). watched_answer options n states) is_last
           ∙ ap (watched_answer options (horizon (load_of over t) options.bits)) until_states_are))
 
 pub until_counted : (chain : Chain) (load : Fraction) (bits : ℕ) (live goal : ℕ → Bool) (by : Comparison) (q : Fraction)

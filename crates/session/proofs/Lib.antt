@@ -1,11 +1,11 @@
 pub mod ExactAnswers
-pub mod Mixes
+pub mod ExactSets
+pub mod PlanMixes
 pub mod PlanColumns
-pub mod PlanOf
+pub mod ChainWalks
 pub mod PlanWords
 pub mod Rounding
 pub mod SameTables
-pub mod UniformRows
 pub mod Verdicts
 pub mod TruthValues
 pub mod Fronts

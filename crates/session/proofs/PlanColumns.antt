@@ -1,7 +1,8 @@
 -- The words of a sound plan's tables can be mixed.
-use Rattle.std.proofs.Common.{◌≡◌, ℕ, zero, suc, ◌*◌, ◌≤◌, ◌<◌, Bool, true, false, length, ap, subst, arith}
+use Rattle.std.proofs.Common.{ℕ, zero, suc, ◌*◌, ◌≤◌, ◌<◌, Bool, true, false, length, ◌∙◌, arith}
 use Rattle.std.proofs.Math.Nat.{div-mul-le_self, le_of_mul-le-mul_right}
-use Rattle.std.specs.Prelude.{slice_index, if◌then◌else◌}
+use Rattle.std.specs.Prelude.{slice_index, if◌then◌else◌, All}
+use Rattle.std.proofs.lemmas.List.{get_or_default}
 use Rattle.ctmc_semantics.specs.RoundedTables.{one_word, low_table, high_table}
 use Rattle.ctmc_semantics.specs.Rows.{Rows}
 use Rattle.ctmc_semantics.specs.Sum.{sum_below}
@@ -10,12 +11,11 @@ use Rattle.ctmc_semantics.proofs.OneStep.{ceil_le}
 use Rattle.step_core.specs.FrameRows.{frame_rows}
 use Rattle.step_core.specs.PlanLaws.{IsWholeRow}
 use Rattle.step_core.specs.PlanLists.{PlanLists}
-use Rattle.step_core.specs.PlanTables.{AreTablesOf}
+use Rattle.step_core.specs.PlanTables.{layer_at, AreTablesOf}
 use Rattle.step_core.specs.SoundPlan.{IsSoundPlan}
 use Rattle.step_core.specs.TableLists.{TableLists}
 use Rattle.step_core.proofs.Layers.{set_word_le}
 use Rattle.step_core.proofs.PlanTableLemmas.{whole_row}
-use Rattle.session.specs.MixColumns.{IsWordTable}
 
 chosen_le : (is_goal is_live : Bool) (q : ℕ) → q ≤ one_word → (if is_goal then one_word else (if is_live then q else 0)) ≤ one_word
 chosen_le true is_live q h = omega arith
@@ -51,34 +51,17 @@ module _ (r : Rows) (whole : (s : ℕ) → s < r.states → IsWholeRow r s) (liv
       (ceil_le _ (r.den s) one_word (whole s l).positive (products_le (high_table r live goals start k) s l (high_word_le start h k)))
 
 module _ (plan : PlanLists) (tables : TableLists) (sound : IsSoundPlan plan) (are : AreTablesOf plan tables) where
-  pub low_words : IsWordTable plan.layers (length plan.frame.rows) tables.low
-  low_words = record {
-    layers = are.low.layers;
-    states = λ k l. (are.low.layer k l).states;
-    at_most_one = λ k s l inside.
-        rw ((are.low.layer k l).words s inside)
-        (low_word_le (frame_rows plan.frame.rows) (λ t i. whole_row plan.frame t sound.frame i) _ _ k s inside);
-  }
+  pub low_words : (k : ℕ) → k ≤ plan.layers → All (λ w. w ≤ one_word) (layer_at tables.low k)
+  low_words k l = λ s d inside.
+      let layer = are.low.layer k l in
+      let here : s < length plan.frame.rows = omega (arith, inside, layer.states) in
+      rw (get_or_default (layer_at tables.low k) s d 0 inside ∙ layer.words s here)
+      (low_word_le (frame_rows plan.frame.rows) (λ t i. whole_row plan.frame t sound.frame i) _ _ k s here)
 
-  pub high_words : IsWordTable plan.layers (length plan.frame.rows) tables.high
-  high_words = record {
-    layers = are.high.layers;
-    states = λ k l. (are.high.layer k l).states;
-    at_most_one = λ k s l inside.
-        rw ((are.high.layer k l).words s inside)
-        (high_word_le (frame_rows plan.frame.rows) (λ t i. whole_row plan.frame t sound.frame i) _ _ (slice_index plan.start_upper)
-        (λ t i. rw (sound.start t i) (set_word_le _)) k s inside);
-  }
-
--- ---- the same of a plan whose fields are read, and whose states are counted by its first upper words
-module _ (plan read : PlanLists) (n : ℕ) (tables : TableLists) (sound : IsSoundPlan plan) (are : AreTablesOf plan tables)
-    (same : read ≡ plan)
-    (counted : n ≡ length read.start_upper) where
-  rows_counted : length plan.frame.rows ≡ n
-  rows_counted = omega (arith, counted, ap (λ p. length p.start_upper) same, sound.start_states)
-
-  pub read_low_words : IsWordTable read.layers n tables.low
-  read_low_words = rw same (subst (λ m. IsWordTable plan.layers m tables.low) rows_counted (low_words plan tables sound are))
-
-  pub read_high_words : IsWordTable read.layers n tables.high
-  read_high_words = rw same (subst (λ m. IsWordTable plan.layers m tables.high) rows_counted (high_words plan tables sound are))
+  pub high_words : (k : ℕ) → k ≤ plan.layers → All (λ w. w ≤ one_word) (layer_at tables.high k)
+  high_words k l = λ s d inside.
+      let layer = are.high.layer k l in
+      let here : s < length plan.frame.rows = omega (arith, inside, layer.states) in
+      rw (get_or_default (layer_at tables.high k) s d 0 inside ∙ layer.words s here)
+      (high_word_le (frame_rows plan.frame.rows) (λ t i. whole_row plan.frame t sound.frame i) _ _ (slice_index plan.start_upper)
+      (λ t i. rw (sound.start t i) (set_word_le _)) k s here)

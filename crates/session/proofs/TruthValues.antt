@@ -1,5 +1,6 @@
 -- Lists of truth values, and those of formulas.
-use Rattle.std.proofs.Common.{◌≡◌, ℕ, ◌<◌, ◌&&◌, ◌||◌, not, Bool, false, List, length, map, replicate, sym, ap, ◌∙◌, arith}
+use Rattle.std.proofs.Common.{◌≡◌, ℕ, ◌<◌, ◌&&◌, ◌||◌, not, Bool, false, List, ◌++◌, take, drop, length, map, replicate, sym, ap, ◌∙◌, arith}
+use Rattle.std.proofs.Math.Seq.{take-append_seam}
 use Rattle.std.specs.List.{range_with_len}
 use Rattle.std.proofs.lemmas.List.{get_or-map, get_or-replicate, length-map, length-replicate}
 use Rattle.std.proofs.lemmas.List.FromFn.{fill_by_all, get_or-map-range_with_len, length-map-range_with_len}
@@ -57,3 +58,8 @@ module _ (over : LabelledChain) where
 
   pub either_truths : (f g : Tree) → either (truths over f) (truths over g) ≡ truths over (disjunction f g)
   either_truths f g = joined_truths (λ a b. a || b) f g
+
+-- a vector that is lent whole as a slice holds what the slice has at the end
+pub written : {X : Type 0} (len : ℕ) (new old : List X) → length old ≡ len → length new ≡ len
+    → take len (new ++ drop (length new) old) ≡ new
+written len new old e f = rw (← f) (take-append_seam new (drop (length new) old))

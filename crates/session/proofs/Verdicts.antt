@@ -1,5 +1,6 @@
 -- The answers to time-bounded untils are exact.
-use Rattle.std.proofs.Common.{◌≡◌, ℕ, ◌+◌, ◌≤◌, ◌<◌, Bool, List, [], ◌∷◌, ◌++◌, refl, sym, ap, ◌∙◌, arith}
+use Rattle.std.proofs.Common.{◌≡◌, ℕ, ◌+◌, ◌≤◌, ◌<◌, Bool, false, IsTrue, List, [], ◌∷◌, ◌++◌, sym, ap, ◌∙◌, arith}
+use Rattle.std.proofs.lemmas.Bool.{false_from_ne_true}
 use Rattle.std.proofs.lemmas.List.FromFn.{map-range_with_len_more}
 use Rattle.ctmc_semantics.specs.Bracket.{ContainsFrom}
 use Rattle.ctmc_semantics.specs.Chain.{Chain}
@@ -9,10 +10,10 @@ use Rattle.ctmc_semantics.specs.JumpValue.{jump_value}
 use Rattle.ctmc_semantics.specs.Jumps.{Jumps}
 use Rattle.ctmc_semantics.specs.Poisson.{until_average}
 use Rattle.ctmc_semantics.specs.Rows.{rows_of}
-use Rattle.ctmc_semantics.specs.Sets.{every_state, known_exactly}
+use Rattle.ctmc_semantics.specs.Sets.{known_exactly}
 use Rattle.ctmc_semantics.specs.Threshold.{Comparison}
 use Rattle.ctmc_semantics.specs.Uniformised.{uniform_rate, uniformised}
-use Rattle.ctmc_semantics.specs.WordBracket.{WordBracket, word_bracket}
+use Rattle.ctmc_semantics.specs.WordBracket.{WordBracket, word_bracket, until_words}
 use Rattle.ctmc_semantics.proofs.AverageLemmas.{average_rises, den_positive}
 use Rattle.ctmc_semantics.proofs.JumpsRise.{jump_value_rises}
 use Rattle.ctmc_semantics.proofs.NarrowBracket.{settled_bracket_narrow}
@@ -22,7 +23,11 @@ use Rattle.poisson_tail.specs.declared.layers.TheConstants.{MOST_LAYERS}
 use Rattle.session.specs.ExactState.{IsExactUntil}
 use Rattle.session.specs.UntilAnswer.{state_words, words_answer, first_answers}
 use Rattle.session.specs.declared.state_answer.StateAnswer.{StateAnswer}
-use Rattle.session.proofs.ExactAnswers.{words_exact}
+use Rattle.session.proofs.ChainWalks.{reach_closed}
+use Rattle.session.proofs.ExactAnswers.{words_exact, is_settled}
+use Rattle.step_core.specs.Walk.{Walk, arrives}
+use Rattle.step_core.specs.WalkFound.{can_reach}
+use Rattle.step_core.proofs.Walks.{walk_of}
 
 -- ---- the words of a state contain its until
 some_rate : (chain : Chain) → 0 < uniform_rate chain
@@ -33,32 +38,43 @@ module _ (chain : Chain) (load : Fraction) (bits : ℕ) (live goal : ℕ → Boo
   abbrev jumps : Jumps
   jumps = uniformised chain
 
+  abbrev reach : ℕ → Bool
+  reach = can_reach chain.states chain.rate live goal
+
+  out_of_reach : (¬ Walk chain.states chain.rate live goal s) → (goal s ≡ false) × (reach s ≡ false)
+  out_of_reach none = (
+    false_from_ne_true (goal s) (λ h. none (arrives h)),
+    false_from_ne_true (reach s) (λ h. none (walk_of chain.states chain.rate live goal s h)),
+  )
+
   pub state_words_contain : ContainsFrom (word_bracket (state_words chain load bits live goal s)) (horizon load bits)
       (until_average jumps load live goal s)
   state_words_contain =
-      settled_contains (rows_of jumps) jumps load bits (known_exactly live goal) live goal every_state s
+      settled_contains (rows_of jumps) jumps load bits (known_exactly live goal) live goal reach s
       (weights_rows jumps (uniformised_stochastic chain) (some_rate chain)) (uniformised_stochastic chain) (some_rate chain) positive
       (omega (arith, few)) inside
       (record { live_has = λ t h. h; live_fits = λ t h. h; goal_has = λ t h. h; goal_fits = λ t h. h })
-      (record { goal_in = λ t l h. refl; back = λ t u l m h p r. refl })
+      (reach_closed chain live goal)
 
   pub state_words_narrow : horizon load bits ≤ MOST_LAYERS
       → (state_words chain load bits live goal s).upper
       ≤ (state_words chain load bits live goal s).lower + greatest_width (horizon load bits) bits
   state_words_narrow short =
-      settled_bracket_narrow (rows_of jumps) jumps load bits live goal every_state s
+      settled_bracket_narrow (rows_of jumps) jumps load bits live goal reach s
       (weights_rows jumps (uniformised_stochastic chain) (some_rate chain))
       (uniformised_stochastic chain) (some_rate chain) positive few short inside
 
   pub until_exact : (by : Comparison) (q : Fraction) → 0 < q.den → horizon load bits ≤ MOST_LAYERS
-      → IsExactUntil by (horizon load bits) bits (until_average jumps load live goal s) q
-      (words_answer by (state_words chain load bits live goal s) q)
+      → IsExactUntil by (horizon load bits) bits (until_average jumps load live goal s) (IsTrue (goal s))
+      (¬ Walk chain.states chain.rate live goal s) q (words_answer by (state_words chain load bits live goal s) q)
   until_exact by q threshold short =
       words_exact by (horizon load bits) bits (until_average jumps load live goal s) q (state_words chain load bits live goal s) threshold
       (λ n. den_positive load jumps.total (λ k. jump_value jumps live goal k s) positive (some_rate chain) n)
       (λ n. average_rises load.num load.den jumps.total (λ k. jump_value jumps live goal k s)
       (λ k. jump_value_rises jumps live goal k s) n)
-      state_words_contain (state_words_narrow short)
+      state_words_contain (IsTrue (goal s)) (¬ Walk chain.states chain.rate live goal s) (state_words_narrow short)
+      (is_settled (goal s) (reach s) (until_words (rows_of jumps) load bits (known_exactly live goal) s) (IsTrue (goal s))
+      (¬ Walk chain.states chain.rate live goal s) (λ h. h) out_of_reach)
 
 -- ---- one answer more
 pub answers_more : (words : ℕ → WordBracket) (by : Comparison) (q : Fraction) (s : ℕ) (answers : List StateAnswer) (answer : StateAnswer)

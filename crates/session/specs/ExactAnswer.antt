@@ -1,6 +1,7 @@
 -- When the answer to a formula is exact: what a reader may rely on, whatever was computed.
 use Rattle.std.specs.Prelude.{◌≡◌, ◌≢◌, ℕ, ◌<◌, Bool, not, IsTrue, List, [], ◌∷◌, ◌++◌, length, All, AllPairs, Some, None, slice_get, IsSomeAnd, ⊤}
 use Rattle.ctmc_semantics.specs.Bracket.{Bracket, printed_bracket, ContainsFrom, Encloses}
+use Rattle.ctmc_semantics.specs.Chain.{Chain}
 use Rattle.ctmc_semantics.specs.Fraction.{Fraction, decimal_fraction}
 use Rattle.ctmc_semantics.specs.Horizon.{horizon}
 use Rattle.ctmc_semantics.specs.Next.{next_probability}
@@ -16,6 +17,7 @@ use Rattle.session.specs.declared.state_answer.StateAnswer.{StateAnswer}
 use Rattle.session.specs.declared.report.Printed.{Printed}
 use Rattle.session.specs.declared.report.Verdict.{Verdict}
 use Rattle.session.specs.declared.report.Verdict.TheVariants.{Satisfied, Refuted, Undecided}
+use Rattle.step_core.specs.Walk.{Walk}
 
 -- the verdict at a state is so, where this is the formula's truth value there; nothing is said where it is left undecided
 abbrev pub IsSo : Bool → Verdict → Type 0
@@ -52,13 +54,17 @@ pub record AreWatched (count last : ℕ) (x : ℕ → Fraction) (printed : Print
   pub nested : AllPairs (λ outer inner. Encloses (bracket_of outer) (bracket_of inner)) watched
   pub printed_last : (earlier : List Printed) (w : Printed) → watched ≡ earlier ++ w ∷ [] → w ≡ printed
 
+-- no walk of transitions through live states leads from the state to the goal
+abbrev pub IsOutOfReach : Chain → (ℕ → Bool) → (ℕ → Bool) → ℕ → Type 0
+IsOutOfReach chain live goal s = ¬ Walk chain.states chain.rate live goal s
+
 -- the answer to an until: its horizon is told, each state's answer is exact, and the brackets of the watched state are
-pub record ShowsUntil (n : ℕ) (options : Options) (by : _) (last : ℕ) (x : ℕ → ℕ → Fraction) (q : Fraction)
+pub record ShowsUntil (n : ℕ) (options : Options) (by : _) (last : ℕ) (x : ℕ → ℕ → Fraction) (sure out_of_reach : ℕ → Type 0) (q : Fraction)
     (answer : AnswerLists) : Type 0 where
   pub watched : List Printed
   pub states : List Printed
   pub shown : answer.shown ≡ Some (record { horizon = Some last; watched = watched; states = states })
-  pub exact : AreExactAt n (λ s. IsExactUntil by last options.bits (x s) q) answer.verdicts states
+  pub exact : AreExactAt n (λ s. IsExactUntil by last options.bits (x s) (sure s) (out_of_reach s) q) answer.verdicts states
   pub watches : IsSomeAnd (slice_get states options.state)
       (λ printed. AreWatched options.watch last (x options.state) printed watched)
 
@@ -71,7 +77,8 @@ ShowsExactly over options (next op q f) answer =
 ShowsExactly over options (until op q f (Time t) g) answer =
     (ys zs : List Bool) → IsSat over f ys → IsSat over g zs
     → ShowsUntil over.chain.states options (comparison_of op) (horizon (load_of over t) options.bits)
-    (time_values over t (holds_at ys) (holds_at zs)) (decimal_fraction q.c q.x) answer
+    (time_values over t (holds_at ys) (holds_at zs)) (λ s. IsTrue (holds_at zs s)) (IsOutOfReach over.chain (holds_at ys) (holds_at zs))
+    (decimal_fraction q.c q.x) answer
 ShowsExactly over options (until op q f Unbounded g) answer = ⊥
 ShowsExactly over options (until op q f (Reward r) g) answer = ⊥
 ShowsExactly over options other answer = IsDecided answer

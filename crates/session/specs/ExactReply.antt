@@ -18,16 +18,16 @@ use Rattle.session.specs.FormulaLines.{formula_lines}
 use Rattle.session.specs.LineReply.{LineReply, Answered, Faulty, NotBuilt, Refused, NumberedReply, all_answered, replies_text}
 use Rattle.session.specs.ModelFiles.{TakesModel, model_of}
 use Rattle.session.specs.Outcome.{TakesInput, HasLongInput, long_text}
-use Rattle.session.specs.UntilPlan.{until_refusal}
 use Rattle.session.specs.declared.status.Status.{Status}
 use Rattle.session.specs.declared.status.Status.TheVariants.{Done, Refused as RefusedStatus}
-use Rattle.session.specs.declared.uniformise.Refusal.{Refusal}
+use Rattle.step_core.specs.declared.plan_error.PlanError.{PlanError}
 use Rattle.text_lines.specs.Lines.{LineText}
+use Rattle.uniformise.specs.TimePlan.{time_refusal}
 
 -- the formula has no plan, for this reason
-abbrev pub HasNoPlan : LabelledChain → Options → Tree → Refusal → Type 0
+abbrev pub HasNoPlan : LabelledChain → Options → Tree → PlanError → Type 0
 HasNoPlan over options (until op q f (Time t) g) refusal =
-    until_refusal over.chain over.rate_decimals options.bits t ≡ Some refusal
+    time_refusal over.chain over.rate_decimals options.bits t ≡ Some refusal
 HasNoPlan over options (until op q f Unbounded g) refusal = ⊥
 HasNoPlan over options (until op q f (Reward r) g) refusal = ⊥
 HasNoPlan over options other refusal = ⊥
@@ -47,7 +47,7 @@ pub record StandsForUnbuilt (over : LabelledChain) (line : List ℕ) : Type 0 wh
   pub unbuilt : IsTrue (not (is_built formula))
 
 -- the line stands for a formula that is built, and that has no plan, for this reason
-pub record StandsForRefused (over : LabelledChain) (options : Options) (line : List ℕ) (refusal : Refusal) : Type 0 where
+pub record StandsForRefused (over : LabelledChain) (options : Options) (line : List ℕ) (refusal : PlanError) : Type 0 where
   pub formula : Tree
   pub says : FormulaSays line over.names formula
   pub built : IsTrue (is_built formula)

@@ -1,5 +1,5 @@
 -- When the answer at a state is exact: what a reader may rely on, whatever was computed.
-use Rattle.std.specs.Prelude.{◌≡◌, ℕ, ◌+◌, ◌≤◌, ◌↔◌}
+use Rattle.std.specs.Prelude.{◌≡◌, ℕ, ◌+◌, ◌^◌, ◌≤◌, ◌↔◌}
 use Rattle.ctmc_semantics.specs.Bracket.{printed_bracket, ContainsProbability, ContainsFrom}
 use Rattle.ctmc_semantics.specs.Fraction.{Fraction}
 use Rattle.ctmc_semantics.specs.Horizon.{greatest_width}
@@ -9,6 +9,7 @@ use Rattle.ctmc_semantics.specs.Value.{ValueMeets, ValueFails}
 use Rattle.ctmc_semantics.specs.Verdict.{BracketSatisfies, BracketRefutes}
 use Rattle.ctmc_semantics.specs.WordBracket.{WordBracket, word_bracket}
 use Rattle.session.specs.declared.state_answer.StateAnswer.{StateAnswer}
+use Rattle.session.specs.declared.report.Printed.{Printed}
 use Rattle.session.specs.declared.report.Verdict.TheVariants.{Satisfied, Refuted, Undecided}
 
 -- the answer of a next operator whose probability is p: the bracket is p rounded down and up, satisfied is said exactly where p meets the
@@ -29,11 +30,19 @@ pub record HasWords (by : Comparison) (last bits : ℕ) (x : ℕ → Fraction) (
   pub satisfied : (answer.verdict ≡ Satisfied) ↔ BracketSatisfies by (word_bracket words) q
   pub refuted : (answer.verdict ≡ Refuted) ↔ BracketRefutes by (word_bracket words) q
 
+-- what needs no counting is printed exactly: 1 where it is sure, and 0 where it is out of reach
+pub record IsSettled (sure out_of_reach : Type 0) (bracket : Printed) : Type 0 where
+  pub one : sure → (bracket.low ≡ 10 ^ 12) × (bracket.high ≡ 10 ^ 12)
+  pub none : out_of_reach → (bracket.low ≡ 0) × (bracket.high ≡ 0)
+
 -- the answer of an until whose averages are x: the printed bracket contains every average from the horizon on, what is said satisfied or
--- refuted is so of the value of x, a threshold that is left undecided lies in the bracket, and no lazier answer would do
-pub record IsExactUntil (by : Comparison) (last bits : ℕ) (x : ℕ → Fraction) (q : Fraction) (answer : StateAnswer) : Type 0 where
+-- refuted is so of the value of x, a threshold that is left undecided lies in the bracket, no lazier answer would do, and a state that
+-- surely is the goal or can't reach it has the bracket of 1 or of 0 alone
+pub record IsExactUntil (by : Comparison) (last bits : ℕ) (x : ℕ → Fraction) (sure out_of_reach : Type 0) (q : Fraction)
+    (answer : StateAnswer) : Type 0 where
   pub contains : ContainsFrom (printed_bracket answer.bracket.low answer.bracket.high) last x
   pub meets : answer.verdict ≡ Satisfied → ValueMeets by x q
   pub fails : answer.verdict ≡ Refuted → ValueFails by x q
   pub undecided : answer.verdict ≡ Undecided → ContainsProbability (printed_bracket answer.bracket.low answer.bracket.high) q
   pub tight : HasWords by last bits x q answer
+  pub settled : IsSettled sure out_of_reach answer.bracket

@@ -14,20 +14,20 @@ use Rattle.model_core.specs.Model.{LabelledChain}
 use Rattle.session.specs.Answer.{AnswerLists}
 use Rattle.session.specs.NextAnswer.{next_answers}
 use Rattle.session.specs.UntilAnswer.{until_answers}
-use Rattle.session.specs.UntilPlan.{until_refusal}
 use Rattle.session.specs.declared.state_answer.StateAnswer.{StateAnswer}
 use Rattle.session.specs.declared.report.Printed.{Printed}
 use Rattle.session.specs.declared.report.Verdict.{Verdict}
 use Rattle.session.specs.declared.report.Verdict.TheVariants.{Satisfied, Refuted}
-use Rattle.session.specs.declared.uniformise.Refusal.{Refusal}
+use Rattle.step_core.specs.declared.plan_error.PlanError.{PlanError}
+use Rattle.uniformise.specs.TimePlan.{time_refusal}
 
 -- the answer, or why the formula is refused
 pub data FormulaAnswer : Type 0 where
   Answers : AnswerLists → FormulaAnswer
-  Refuses : Refusal → FormulaAnswer
+  Refuses : PlanError → FormulaAnswer
 
 -- the answer, unless the formula is refused
-abbrev pub unless_refused : Option Refusal → AnswerLists → FormulaAnswer
+abbrev pub unless_refused : Option PlanError → AnswerLists → FormulaAnswer
 unless_refused (Some refusal) answer = Refuses refusal
 unless_refused None answer = Answers answer
 
@@ -74,6 +74,6 @@ until_states over bits op q t f g =
 abbrev pub formula_answer : LabelledChain → Options → Tree → FormulaAnswer
 formula_answer over options (next op q f) = Answers (shown_answer None [] (next_states over op q f))
 formula_answer over options (until op q f (Time t) g) =
-    unless_refused (until_refusal over.chain over.rate_decimals options.bits t)
+    unless_refused (time_refusal over.chain over.rate_decimals options.bits t)
     (watched_answer options (horizon (load_of over t) options.bits) (until_states over options.bits op q t f g))
 formula_answer over options other = Answers (verdicts_answer (truths over other))

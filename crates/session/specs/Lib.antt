@@ -17,12 +17,11 @@ pub mod WorkedExample
 -- what is computed
 pub mod BracketAnswer
 pub mod NextAnswer
-pub mod UntilPlan
 pub mod UntilAnswer
 pub mod FormulaAnswer
 -- what the functions' own steps say
 pub mod Ends
 pub mod TruthLists
-pub mod MixColumns
+pub mod PlanFault
+pub mod PlanMixes
 pub mod Reading
-pub mod UniformisedRow

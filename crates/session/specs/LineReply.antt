@@ -10,12 +10,13 @@ use Rattle.csl_syntax.specs.declared.fault.FormulaFault.{FormulaFault}
 use Rattle.csl_syntax.specs.declared.fault.FormulaWhat.{FormulaWhat}
 use Rattle.csl_syntax.specs.declared.fault.FormulaWhat.TheVariants as what
 use Rattle.model_core.specs.Model.{LabelledChain}
+use Rattle.model_core.specs.StateNumber.{state_number}
 use Rattle.session.specs.Answer.{AnswerLists}
 use Rattle.session.specs.FormulaAnswer.{FormulaAnswer, Answers, Refuses, formula_answer, is_built}
 use Rattle.session.specs.FormulaLines.{formula_lines}
 use Rattle.session.specs.Report.{answer_text}
-use Rattle.session.specs.declared.uniformise.Refusal.{Refusal}
-use Rattle.session.specs.declared.uniformise.Refusal.TheVariants.{TooLong, TooLarge}
+use Rattle.step_core.specs.declared.plan_error.PlanError.{PlanError}
+use Rattle.step_core.specs.declared.plan_error.PlanError.TheVariants as why
 use Rattle.text_lines.specs.Lines.{LineText}
 
 -- a formula's text and its answer; what is wrong with the line; that its formula is not built; or why the formula is refused
@@ -23,7 +24,7 @@ pub data LineReply : Type 0 where
   Answered : List ℕ → AnswerLists → LineReply
   Faulty : FormulaFault → LineReply
   NotBuilt : LineReply
-  Refused : Refusal → LineReply
+  Refused : PlanError → LineReply
 
 -- a reply, with the number of its line
 pub record NumberedReply : Type 0 where
@@ -82,9 +83,19 @@ what_text what.Threshold = codes "Threshold"
 what_text what.Depth = codes "Depth"
 what_text what.Length = codes "Length"
 
-abbrev pub refusal_text : Refusal → List ℕ
-refusal_text TooLong = codes "TooLong"
-refusal_text TooLarge = codes "TooLarge"
+-- a name, and the number of a state
+abbrev pub of_state : List ℕ → ℕ → List ℕ
+of_state name s = name ++ codes " state " ++ decimal (state_number s)
+
+-- each reason why an until has no plan by its name; want of memory refuses no line
+abbrev pub refusal_text : PlanError → List ℕ
+refusal_text why.TooLong = codes "TooLong"
+refusal_text why.TooLarge = codes "TooLarge"
+refusal_text why.NoRewards = codes "NoRewards"
+refusal_text (why.ZeroReward s) = of_state (codes "ZeroReward") s
+refusal_text (why.RewardRange s) = of_state (codes "RewardRange") s
+refusal_text why.BoundRange = codes "BoundRange"
+refusal_text why.Memory = codes "Memory"
 
 -- the line of a refusal, by the number of the line that is refused
 abbrev pub refused_line : ℕ → List ℕ → List ℕ

@@ -1,21 +1,27 @@
 -- How the answers of a time-bounded until are computed.
-use Rattle.std.specs.Prelude.{ℕ, Bool, true, List, map, length, slice_index_or}
+use Rattle.std.specs.Prelude.{ℕ, Bool, List, map, length}
 use Rattle.std.specs.List.{range_with_len}
 use Rattle.ctmc_semantics.specs.Chain.{Chain}
 use Rattle.ctmc_semantics.specs.Fraction.{Fraction}
 use Rattle.ctmc_semantics.specs.Rows.{rows_of}
-use Rattle.ctmc_semantics.specs.Sets.{holds_at, known_exactly}
+use Rattle.ctmc_semantics.specs.Sets.{known_exactly}
 use Rattle.ctmc_semantics.specs.Threshold.{Comparison}
 use Rattle.ctmc_semantics.specs.Uniformised.{uniformised}
 use Rattle.ctmc_semantics.specs.WordBracket.{WordBracket, word_bracket, settle, until_words}
+use Rattle.mix_columns.specs.Mixed.{plan_settle, words_of}
+use Rattle.mix_columns.specs.SideBySide.{bracket_at}
+use Rattle.step_core.specs.FrameLists.{SetLists}
+use Rattle.step_core.specs.PlanLists.{PlanLists}
+use Rattle.step_core.specs.WalkFound.{can_reach}
 use Rattle.step_core.specs.declared.bracket.Bracket.{Bracket}
 use Rattle.session.specs.BracketAnswer.{bracket_answer}
 use Rattle.session.specs.declared.state_answer.StateAnswer.{StateAnswer}
 
--- the bracket of a state in words: 1 at the goal, and else the mix of its columns
+-- the bracket of a state in words: 1 at the goal, 0 where no walk leads to it, and else the mix of its columns
 abbrev pub state_words : Chain → Fraction → ℕ → (ℕ → Bool) → (ℕ → Bool) → ℕ → WordBracket
 state_words chain load bits live goal s =
-    settle (goal s) true (until_words (rows_of (uniformised chain)) load bits (known_exactly live goal) s)
+    settle (goal s) (can_reach chain.states chain.rate live goal s)
+    (until_words (rows_of (uniformised chain)) load bits (known_exactly live goal) s)
 
 -- the answer of a state whose probability lies between the words
 abbrev pub words_answer : Comparison → WordBracket → Fraction → StateAnswer
@@ -29,16 +35,14 @@ first_answers words by q n = map (λ s. words_answer by (words s) q) (range_with
 abbrev pub until_answers : Chain → Fraction → ℕ → (ℕ → Bool) → (ℕ → Bool) → Comparison → Fraction → List StateAnswer
 until_answers chain load bits live goal by q = first_answers (state_words chain load bits live goal) by q chain.states
 
--- the mix of a state among those of all states
-abbrev pub mix_at : List Bracket → ℕ → WordBracket
-mix_at mixes s =
-    let mix = slice_index_or mixes s (record { lower = 0; upper = 0 }) in
-    record { lower = mix.lower; upper = mix.upper }
+-- the words of a state by the plan, where the mixes of all states are listed
+abbrev pub settled_words : PlanLists → List Bracket → ℕ → WordBracket
+settled_words plan mixes s = plan_settle plan s (words_of (bracket_at mixes s))
 
--- the words of a state, where it is listed which states are the goal and what the mixes are
-abbrev pub settled_words : List Bool → List Bracket → ℕ → WordBracket
-settled_words goal mixes s = settle (holds_at goal s) true (mix_at mixes s)
+-- the answers at all states by the plan and their mixes
+abbrev pub settled_answers : PlanLists → List Bracket → Comparison → Fraction → List StateAnswer
+settled_answers plan mixes by q = first_answers (settled_words plan mixes) by q (length mixes)
 
--- the answers at the listed states
-abbrev pub settled_answers : List Bool → List Bracket → Comparison → Fraction → List StateAnswer
-settled_answers goal mixes by q = first_answers (settled_words goal mixes) by q (length goal)
+-- both sets of an until, where they are known exactly and listed
+abbrev pub exact_sets : List Bool → List Bool → SetLists
+exact_sets live goal = record { goal_must = goal; goal_may = goal; live_must = live; live_may = live }

@@ -6,7 +6,6 @@ mod fault_line;
 mod formula_lines;
 mod laws;
 mod line_reply;
-mod mix_columns;
 mod model_files;
 mod nested_verdict;
 mod next_states;
@@ -18,9 +17,6 @@ mod status;
 mod sure;
 mod top;
 mod truth_values;
-mod uniformise;
-mod uniformised_rows;
-mod until_plan;
 mod until_states;
 mod worked_example;
 

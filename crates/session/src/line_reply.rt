@@ -5,19 +5,19 @@ ghost use Rattle.command_words.specs.Laws.{AreInRange};
 ghost use Rattle.model_core.specs.Model.{labelled_chain};
 ghost use Rattle.outside.specs.Causes.{HasCause};
 ghost use Rattle.outside.specs.Whole.{WritesFront};
-ghost use Rattle.session.specs.LineReply.{IsLineReply, is_answer, what_text, refusal_text, fault_text, refused_line, reply_text};
+ghost use Rattle.session.specs.LineReply.{IsLineReply, is_answer, what_text, refusal_text, of_state, fault_text, refused_line, reply_text};
 ghost use Rattle.session.specs.Reading.{line_reply_of, IsReplyWritable};
 
 use crate::built::is_built;
 use crate::nested_verdict::{CheckFault, check};
 use crate::report::{Answer, write_answer};
-use crate::uniformise::Refusal;
 use command_words::Options;
 use csl_syntax::{FormulaFault, FormulaWhat, ParseFault, parse, print};
 use itoa::Buffer;
 use model_core::Model;
 use outside::{PutFault, Sink, write_whole};
 use std::alloc::{AllocError, Global};
+use step_core::PlanError;
 
 /// The reply to a line of the formulas.
 #[derive(Debug, Drop)]
@@ -29,7 +29,7 @@ pub(crate) enum Reply {
     /// The formula is none of those that are answered today.
     NotBuilt,
     /// The formula is an until that has no plan.
-    Refused(Refusal),
+    Refused(PlanError),
 }
 
 impl Reply {
@@ -88,7 +88,7 @@ pub(crate) fn write_reply<K: Sink>(
         Reply::Answered(text, answer) => return write_answer(alloc, text, answer, out),
         Reply::Faulty(fault) => put_fault(&mut why, *fault)?,
         Reply::NotBuilt => why.extend_from_slice(b"NotBuilt")?,
-        Reply::Refused(refusal) => why.extend_from_slice(refusal.text())?,
+        Reply::Refused(refusal) => put_refusal(&mut why, *refusal)?,
     }
     write_refused_line(alloc, number, &why, out)
 }
@@ -130,6 +130,31 @@ fn put_fault(line: &mut Vec<u8>, fault: FormulaFault) -> Result<(), AllocError>
     line.extend_from_slice(digits.format(fault.column).as_bytes())?;
     line.push(b' ')?;
     line.extend_from_slice(what_text(fault.what))?;
+    Ok(())
+}
+
+fn put_refusal(line: &mut Vec<u8>, refusal: PlanError) -> Result<(), AllocError>
+    ensures { OnOk result (line.new.items ≡ line.old.items ++ refusal_text refusal) }
+{
+    match refusal {
+        PlanError::TooLong => line.extend_from_slice(b"TooLong"),
+        PlanError::TooLarge => line.extend_from_slice(b"TooLarge"),
+        PlanError::NoRewards => line.extend_from_slice(b"NoRewards"),
+        PlanError::ZeroReward(state) => put_of_state(line, b"ZeroReward", state),
+        PlanError::RewardRange(state) => put_of_state(line, b"RewardRange", state),
+        PlanError::BoundRange => line.extend_from_slice(b"BoundRange"),
+        PlanError::Memory => line.extend_from_slice(b"Memory"),
+    }
+}
+
+// A name, and the number of a state, which a file counts from 1.
+fn put_of_state(line: &mut Vec<u8>, name: &[u8], state: u32) -> Result<(), AllocError>
+    ensures { OnOk result (line.new.items ≡ line.old.items ++ of_state name.now state) }
+{
+    let mut digits = Buffer::new();
+    line.extend_from_slice(name)?;
+    line.extend_from_slice(b" state ")?;
+    line.extend_from_slice(digits.format(u64::from(state) + 1).as_bytes())?;
     Ok(())
 }
 

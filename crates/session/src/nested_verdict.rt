@@ -5,35 +5,44 @@ ghost use Rattle.model_core.specs.Model.{labelled_chain};
 ghost use Rattle.session.specs.Answer.{answer_lists};
 ghost use Rattle.session.specs.FormulaAnswer.{Answers, Refuses, formula_answer, is_built, verdicts_answer, watched_answer, shown_answer};
 ghost use Rattle.session.specs.Report.{IsWritable};
+ghost use Rattle.session.specs.UntilAnswer.{exact_sets};
 
 use crate::next_states::check_next;
 use crate::report::{Answer, Printed, Shown, Verdict};
 use crate::state_answer::StateAnswer;
 use crate::truth_values::truths;
-use crate::uniformise::{Refusal, time_bound};
-use crate::until_plan::plan_until;
 use crate::until_states::check_until;
 use command_words::Options;
 use csl_syntax::{Bound, Formula};
 use model_core::Model;
 use std::alloc::{AllocError, Global};
+use step_core::{PlanError, Sets};
+use uniformise::time_plan;
 
 /// Why a formula isn't answered.
 #[derive(Clone, Copy, Debug, PartialEq, Eq)]
 pub(crate) enum CheckFault {
-    /// The plan of an until is refused.
-    Refused(Refusal),
+    /// An until has no plan; never for want of memory.
+    Refused(PlanError),
     Memory,
 }
 
-impl From<Refusal> for CheckFault {
+impl From<PlanError> for CheckFault {
     ghost use Rattle.std.specs.Prelude.{◌≡◌};
-    ghost use Rattle.session.specs.declared.nested_verdict.CheckFault.TheVariants.{Refused};
+    ghost use Rattle.session.specs.PlanFault.{plan_fault};
 
-    ghost from_gives = { λ refusal fault. fault ≡ Refused refusal };
+    ghost from_gives = { λ error fault. fault ≡ plan_fault error };
 
-    fn from(refusal: Refusal) -> Self {
-        CheckFault::Refused(refusal)
+    fn from(error: PlanError) -> Self {
+        match error {
+            PlanError::Memory => CheckFault::Memory,
+            PlanError::TooLong
+            | PlanError::TooLarge
+            | PlanError::NoRewards
+            | PlanError::ZeroReward(_)
+            | PlanError::RewardRange(_)
+            | PlanError::BoundRange => CheckFault::Refused(error),
+        }
     }
 }
 
@@ -62,7 +71,7 @@ pub(crate) fn check(
     requires state { options.now.state < model.now.n }
     ensures answer { IfOk result (λ answer. formula_answer (labelled_chain model.now) options.now (tree_of formula.now)
         ≡ Answers (answer_lists answer)) }
-    ensures refused { (refusal : Refusal) → result ≡ Err (CheckFault.Refused refusal)
+    ensures refused { (refusal : PlanError) → result ≡ Err (CheckFault.Refused refusal)
         → formula_answer (labelled_chain model.now) options.now (tree_of formula.now) ≡ Refuses refusal }
     ensures writable { IfOk result (λ answer. IsWritable (answer_lists answer)) }
 {
@@ -74,12 +83,12 @@ pub(crate) fn check(
         }
         Formula::Until(op, threshold, left, bound, right) => match bound {
             Bound::Time(time) => {
-                let bound = time_bound(model, *time, options.bits)?;
                 let live = truths(alloc, model, left)?;
                 let goal = truths(alloc, model, right)?;
-                let plan = plan_until(alloc, model, live, goal, &bound)?;
+                let sets = exact_sets(alloc, live, goal)?;
+                let plan = time_plan(alloc, model, sets, *time, options.bits)?;
                 let states = check_until(alloc, &plan, *op, *threshold)?;
-                Ok(watched_answer(alloc, &states, bound.last, options)?)
+                Ok(watched_answer(alloc, &states, plan.layers, options)?)
             }
             Bound::Unbounded => unreachable!(),
             Bound::Reward(_) => unreachable!(),
@@ -91,6 +100,18 @@ pub(crate) fn check(
         | Formula::And(_, _)
         | Formula::Or(_, _) => Ok(verdicts_answer(alloc, &truths(alloc, model, formula)?)?),
     }
+}
+
+// The live states and the goal of an until, where both are known exactly.
+fn exact_sets(alloc: Global, live: Vec<bool>, goal: Vec<bool>) -> Result<Sets, AllocError>
+    ensures { IfOk result (λ sets. sets ≡ exact_sets live.items goal.items) }
+{
+    Ok(Sets {
+        goal_may: Vec::from_slice(alloc, &goal)?,
+        goal_must: goal,
+        live_may: Vec::from_slice(alloc, &live)?,
+        live_must: live,
+    })
 }
 
 // The answer to a formula without a probability operator, by its truth values.

@@ -16,6 +16,7 @@ mod line_faults;
 mod lines;
 mod next;
 mod options;
+mod reach;
 mod truths;
 mod until;
 

@@ -1,98 +1,78 @@
 // The answers of a time-bounded until at each state, from its plan.
-ghost use Rattle.std.specs.Prelude.{◌≡◌, ℕ, ◌≤◌, Bool, true, length, slice_index_or, IfOk, All};
+ghost use Rattle.std.specs.Prelude.{◌≡◌, ℕ, ◌≤◌, Bool, List, length, IfOk, All};
+ghost use Rattle.csl_semantics.specs.Meaning.{comparison_of};
 ghost use Rattle.ctmc_semantics.specs.Chain.{Chain};
 ghost use Rattle.ctmc_semantics.specs.Fraction.{Fraction, decimal_fraction};
-ghost use Rattle.ctmc_semantics.specs.WordBracket.{WordBracket, settle};
+ghost use Rattle.ctmc_semantics.specs.Sets.{holds_at};
+ghost use Rattle.step_core.specs.FrameLists.{SetLists};
 ghost use Rattle.step_core.specs.SoundPlan.{IsSoundPlan};
-ghost use Rattle.session.specs.MixColumns.{AreMixesOf, IsBounded};
-ghost use Rattle.csl_semantics.specs.Meaning.{comparison_of};
+ghost use Rattle.uniformise.specs.TimePlan.{IsTimePlan};
+ghost use Rattle.session.specs.PlanMixes.{AreMixesOf};
 ghost use Rattle.session.specs.Report.{IsPrintable};
-ghost use Rattle.session.specs.UntilAnswer.{until_answers, settled_answers};
-ghost use Rattle.session.specs.UntilPlan.{IsUntilPlan};
+ghost use Rattle.session.specs.UntilAnswer.{until_answers, settled_answers, exact_sets};
 
-use crate::mix_columns::mixed_brackets;
 use crate::state_answer::{StateAnswer, words_answer};
 use csl_syntax::Op;
 use decimal_text::Decimal;
+use mix_columns::{Mixers, settle};
 use round_out::ONE;
 use std::alloc::{AllocError, Global};
-use step_core::{Bracket, Mix, Plan, plain_tables};
+use step_core::{Bracket, Plan, plain_tables};
 
 /// Answers `P{op threshold}[live U[0,t] goal]` at each state, by the plan of reaching the goal through live states within
-/// the time.
+/// the time. Both sets are known exactly.
 pub(crate) fn check_until(
     alloc: Global,
     plan: &Plan,
     op: Op,
     threshold: Decimal,
 ) -> Result<Vec<StateAnswer>, AllocError>
-    requires plan { (chain : Chain) × (load : Fraction) × (bits : ℕ) × (live : ℕ → Bool) × (goal : ℕ → Bool)
-        × IsUntilPlan chain load bits live goal plan.now }
-    ensures answers { (chain : Chain) → (load : Fraction) → (bits : ℕ) → (live goal : ℕ → Bool)
-        → IsUntilPlan chain load bits live goal plan.now
-        → IfOk result (λ states. states.items
-        ≡ until_answers chain load bits live goal (comparison_of op) (decimal_fraction threshold.c threshold.x)) }
+    requires plan { (chain : Chain) × (load : Fraction) × (bits : ℕ) × (sets : SetLists) × IsTimePlan chain load bits sets plan.now }
+    ensures answers { (chain : Chain) → (load : Fraction) → (bits : ℕ) → (live goal : List Bool)
+        → IsTimePlan chain load bits (exact_sets live goal) plan.now
+        → IfOk result (λ states. states.items ≡ until_answers chain load bits (holds_at live) (holds_at goal)
+        (comparison_of op) (decimal_fraction threshold.c threshold.x)) }
     ensures printable { IfOk result (λ states. All (λ a. IsPrintable a.bracket) states.items) }
 {
     let mixes = plan_mixes(alloc, plan)?;
-    let frame = &plan.frame;
-    let sets = &frame.sets;
-    answer_mixes(alloc, &sets.goal_must, &mixes, op, threshold)
+    answer_mixes(alloc, plan, &mixes, op, threshold)
 }
 
-// The mixes of the columns of a bounded until's tables.
+// The mix of each state's columns in the plan's tables: the mixers of all states take one layer after another.
 fn plan_mixes(alloc: Global, plan: &Plan) -> Result<Vec<Bracket>, AllocError>
     requires sound { IsSoundPlan plan.now }
-    requires bounded { IsBounded plan.now.mix }
     ensures mixes { IfOk result (λ mixes. AreMixesOf plan.now mixes.items) }
-    ensures words { IfOk result (λ mixes. All (λ mix. mix.lower ≤ ONE) mixes.items) }
+    ensures lower_words { IfOk result (λ mixes. All (λ mix. mix.lower ≤ ONE) mixes.items) }
     ensures upper_words { IfOk result (λ mixes. All (λ mix. mix.upper ≤ ONE) mixes.items) }
 {
-    let Mix::Poisson(weights, bits) = &plan.mix else {
-        unreachable!()
-    };
     let tables = plain_tables(alloc, plan)?;
-    let states = plan.start_upper.len();
-    mixed_brackets(alloc, weights, &tables, plan.layers as usize, *bits, states)
+    let mut mixers = Mixers::start(alloc, plan)?;
+    for layer in 0..plan.layers as usize + 1 {
+        mixers.add_layer(plan, &tables.low[layer], &tables.high[layer]);
+    }
+    mixers.finish(alloc, plan)
 }
 
-// The answers at the states by their mixes, and by whether they are the goal.
+// The answers at the states by their settled mixes.
 fn answer_mixes(
     alloc: Global,
-    goal: &[bool],
+    plan: &Plan,
     mixes: &[Bracket],
     op: Op,
     threshold: Decimal,
 ) -> Result<Vec<StateAnswer>, AllocError>
-    requires each { length mixes.now ≡ length goal.now }
-    requires words { All (λ mix. mix.lower ≤ ONE) mixes.now }
+    requires sound { IsSoundPlan plan.now }
+    requires each { length mixes.now ≡ length plan.now.frame.rows }
+    requires lower_words { All (λ mix. mix.lower ≤ ONE) mixes.now }
     requires upper_words { All (λ mix. mix.upper ≤ ONE) mixes.now }
     ensures answers { IfOk result (λ states. states.items
-        ≡ settled_answers goal.now mixes.now (comparison_of op) (decimal_fraction threshold.c threshold.x)) }
+        ≡ settled_answers plan.now mixes.now (comparison_of op) (decimal_fraction threshold.c threshold.x)) }
     ensures printable { IfOk result (λ states. All (λ a. IsPrintable a.bracket) states.items) }
 {
-    let mut answers = Vec::with_capacity(alloc, goal.len())?;
-    for s in 0..goal.len() {
-        answers.push(words_answer(settled(mixes[s], goal[s]), op, threshold))?;
+    let mut answers = Vec::with_capacity(alloc, mixes.len())?;
+    for s in 0..mixes.len() {
+        let words = settle(plan, s as u32, mixes[s]);
+        answers.push(words_answer(words, op, threshold))?;
     }
     Ok(answers)
-}
-
-// The bracket of a state: 1 at the goal, and else that of its mixes.
-fn settled(mixes: Bracket, is_goal: bool) -> Bracket
-    requires lower { mixes.lower ≤ ONE }
-    requires upper { mixes.upper ≤ ONE }
-    ensures words { record { lower = result.lower; upper = result.upper }
-        ≡ settle is_goal true (record { lower = mixes.lower; upper = mixes.upper }) }
-    ensures lower { result.lower ≤ ONE }
-    ensures upper { result.upper ≤ ONE }
-{
-    if is_goal {
-        Bracket {
-            lower: ONE,
-            upper: ONE,
-        }
-    } else {
-        mixes
-    }
 }

@@ -132,7 +132,7 @@ const LONG_ENOUGH: &[(&[u8], &[u8], &str)] = &[
     (
         STILL,
         b"P{>=0.5}[tt U[0,999999999999999999] a]\n",
-        "formula P{>=0.5}[tt U[0,999999999999999999] a]\nhorizon 30\n1 refuted 0.000000000000 0.000000000932\n",
+        "formula P{>=0.5}[tt U[0,999999999999999999] a]\nhorizon 30\n1 refuted 0.000000000000 0.000000000000\n",
     ),
 ];
 
@@ -167,6 +167,6 @@ fn the_tables_of_an_until_have_8388608_words_at_most(rt: HostRuntime) -> Result<
     expect_front(
         &rt,
         Input::ctmc(WIDE, LAB, b"P{>=0.5}[tt U[0,48.5] a]\n"),
-        "formula P{>=0.5}[tt U[0,48.5] a]\nhorizon 127\n1 satisfied 0.999999999999 1.000000000000\n2 satisfied 1.000000000000 1.000000000000\n3 refuted 0.000000000000 0.000000000932\n",
+        "formula P{>=0.5}[tt U[0,48.5] a]\nhorizon 127\n1 satisfied 0.999999999999 1.000000000000\n2 satisfied 1.000000000000 1.000000000000\n3 refuted 0.000000000000 0.000000000000\n",
     )
 }

@@ -23,7 +23,7 @@ fn any_declared_label_can_be_asked_for(rt: HostRuntime) -> Result<(), Fail> {
         ),
         (
             b"P{>=1}[tt U[0,0] up]",
-            "formula P{>=1}[tt U[0,0] up]\nhorizon 30\n1 satisfied 1.000000000000 1.000000000000\n2 satisfied 1.000000000000 1.000000000000\n3 refuted 0.000000000000 0.000000000932\n",
+            "formula P{>=1}[tt U[0,0] up]\nhorizon 30\n1 satisfied 1.000000000000 1.000000000000\n2 satisfied 1.000000000000 1.000000000000\n3 refuted 0.000000000000 0.000000000000\n",
         ),
     ];
     for (formula, want) in cases {

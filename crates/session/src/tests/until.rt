@@ -103,19 +103,19 @@ fn a_threshold_in_the_bracket_is_undecided(rt: HostRuntime) -> Result<(), Fail> 
 const LIVE: &[(&[u8], &str)] = &[
     (
         b"P{>=0.65}[!b U[0,1] a]",
-        "formula P{>=0.65}[!b U[0,1] a]\nhorizon 36\n1 refuted 0.633475287754 0.633475288687\n2 satisfied 1.000000000000 1.000000000000\n3 refuted 0.000000000000 0.000000000932\n4 refuted 0.000000000000 0.000000000932\n",
+        "formula P{>=0.65}[!b U[0,1] a]\nhorizon 36\n1 refuted 0.633475287754 0.633475288687\n2 satisfied 1.000000000000 1.000000000000\n3 refuted 0.000000000000 0.000000000000\n4 refuted 0.000000000000 0.000000000000\n",
     ),
     (
         b"P{>=0.65}[tt U[0,1] a]",
-        "formula P{>=0.65}[tt U[0,1] a]\nhorizon 36\n1 satisfied 0.791166745230 0.791166746162\n2 satisfied 1.000000000000 1.000000000000\n3 refuted 0.632120558828 0.632120559760\n4 refuted 0.000000000000 0.000000000932\n",
+        "formula P{>=0.65}[tt U[0,1] a]\nhorizon 36\n1 satisfied 0.791166745230 0.791166746162\n2 satisfied 1.000000000000 1.000000000000\n3 refuted 0.632120558828 0.632120559760\n4 refuted 0.000000000000 0.000000000000\n",
     ),
     (
         b"P{>=0.65}[!b&&!a U[0,1] a||b]",
-        "formula P{>=0.65}[!b && !a U[0,1] a || b]\nhorizon 36\n1 satisfied 0.950212931632 0.950212932564\n2 satisfied 1.000000000000 1.000000000000\n3 satisfied 1.000000000000 1.000000000000\n4 refuted 0.000000000000 0.000000000932\n",
+        "formula P{>=0.65}[!b && !a U[0,1] a || b]\nhorizon 36\n1 satisfied 0.950212931632 0.950212932564\n2 satisfied 1.000000000000 1.000000000000\n3 satisfied 1.000000000000 1.000000000000\n4 refuted 0.000000000000 0.000000000000\n",
     ),
     (
         b"P{<1}[ff U[0,1] a]",
-        "formula P{<1}[ff U[0,1] a]\nhorizon 36\n1 satisfied 0.000000000000 0.000000000932\n2 refuted 1.000000000000 1.000000000000\n3 satisfied 0.000000000000 0.000000000932\n4 satisfied 0.000000000000 0.000000000932\n",
+        "formula P{<1}[ff U[0,1] a]\nhorizon 36\n1 satisfied 0.000000000000 0.000000000000\n2 refuted 1.000000000000 1.000000000000\n3 satisfied 0.000000000000 0.000000000000\n4 satisfied 0.000000000000 0.000000000000\n",
     ),
 ];
 
@@ -149,7 +149,7 @@ fn the_ends_of_the_scale_are_decided(rt: HostRuntime) -> Result<(), Fail> {
         &rt,
         Input::ctmc(STILL, LAB, b"P{>=0}[tt U[0,9] a]"),
         Status::Done,
-        "formula P{>=0}[tt U[0,9] a]\nhorizon 30\n1 satisfied 0.000000000000 0.000000000932\n2 satisfied 1.000000000000 1.000000000000\n",
+        "formula P{>=0}[tt U[0,9] a]\nhorizon 30\n1 satisfied 0.000000000000 0.000000000000\n2 satisfied 1.000000000000 1.000000000000\n",
     )
 }
 
@@ -166,7 +166,7 @@ fn decimals_of_rates_and_time_are_counted(rt: HostRuntime) -> Result<(), Fail> {
     for (tra, time) in cases {
         let formula = format!(in rt.alloc(); "P{{>=0.5}}[tt U[0,{time}] a]")?;
         let text = format!(in rt.alloc();
-            "formula {formula}\nhorizon 34\n1 refuted 0.259399415029 0.259399415961\n2 satisfied 1.000000000000 1.000000000000\n3 refuted 0.000000000000 0.000000000932\n"
+            "formula {formula}\nhorizon 34\n1 refuted 0.259399415029 0.259399415961\n2 satisfied 1.000000000000 1.000000000000\n3 refuted 0.000000000000 0.000000000000\n"
         )?;
         let input = Input::ctmc(tra, LAB, formula.as_bytes());
         expect(&rt, input, Status::Done, text.as_str())?;

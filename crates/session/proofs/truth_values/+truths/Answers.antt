@@ -5,8 +5,7 @@ use Rattle.csl_syntax.specs.Tree.{tree_of}
 use Rattle.csl_syntax.specs.declared.formula.Formula.{Formula}
 use Rattle.model_core.specs.Model.{labelled_chain}
 use Rattle.session.specs.TruthLists.{opposites, both, either}
-use Rattle.session.proofs.Mixes.{written}
-use Rattle.session.proofs.TruthValues.{all_alike, opposite_truths, both_truths, either_truths}
+use Rattle.session.proofs.TruthValues.{all_alike, opposite_truths, both_truths, either_truths, written}
 use Rattle.session.proofs.truth_values.+truths.Goals as goal
 
 pub returns-in-Tt : goal.returns-in-Tt

@@ -8,6 +8,6 @@ use Rattle.session.proofs.until_states.answer_mixes.Given as goal
 abbrev pub invariant-loop-s : goal.invariant-loop-s
 invariant-loop-s l = record {
   answers : l.answers.items
-      ≡ first_answers (settled_words l.goal l.mixes) (comparison_of l.op) (decimal_fraction l.threshold.c l.threshold.x) l.s;
+      ≡ first_answers (settled_words l.plan l.mixes) (comparison_of l.op) (decimal_fraction l.threshold.c l.threshold.x) l.s;
   printable : All (λ a. IsPrintable a.bracket) l.answers.items;
 }

@@ -1,54 +1,89 @@
-use Rattle.std.proofs.Common.{◌∙◌, ◌^◌, ◌≤◌, All, ap, sym, subst, arith}
-use Rattle.std.proofs.lemmas.Result.{IfOk-weaker}
+use Rattle.std.proofs.Common.{◌≡◌, ◌∙◌, ℕ, suc, ◌≤◌, List, length, ap, sym, subst, arith}
+use Rattle.std.specs.Prelude.{All, Result, Ok, Err, IfOk}
+use Rattle.ctmc_semantics.specs.RoundedTables.{one_word}
 use Rattle.step_core.specs.PlanTables.{AreTablesOf}
-use Rattle.step_core.specs.SoundPlan.{IsSoundPlan, IsSoundMix}
-use Rattle.session.specs.MixColumns.{AreMixesOf, first_mixes}
-use Rattle.session.proofs.Mixes.{lower_words, upper_words}
-use Rattle.session.proofs.PlanColumns.{read_low_words, read_high_words}
+use Rattle.step_core.specs.contracts.tables.Tables.{the_view}
+use Rattle.session.specs.PlanMixes.{AreMixesOf}
+use Rattle.session.proofs.PlanColumns.{low_words, high_words}
+use Rattle.session.proofs.PlanMixes.{read_layer, took_none, some_columns, taken, took_more, mixes_of_tables}
 use Rattle.session.proofs.until_states.plan_mixes.Goals as goal
 
-pub mixed_brackets-requires-clause-low : goal.mixed_brackets-requires-clause-low
-mixed_brackets-requires-clause-low c =
-    read_low_words c.args.plan.now _ c.len-states.result c.in_ok-tables.tables c.requires.sound c.in_ok-tables.ensures c.plan.view_is
-    (omega (arith, c.len-states.ensures))
+ok_both : {X E : Type 0} (r : Result X E) (P Q R : X → Type 0) → ((x : X) → P x → Q x → R x) → IfOk r P → IfOk r Q → IfOk r R
+ok_both (Ok x) P Q R f p q = f x p q
+ok_both (Err e) P Q R f p q = tt
 
-pub mixed_brackets-requires-clause-high : goal.mixed_brackets-requires-clause-high
-mixed_brackets-requires-clause-high c =
-    read_high_words c.args.plan.now _ c.len-states.result c.in_ok-tables.tables c.requires.sound c.in_ok-tables.ensures c.plan.view_is
-    (omega (arith, c.len-states.ensures))
+pub loop-layer-init : goal.loop-layer-init
+loop-layer-init c =
+    took_none c.args.plan.now (the_view c.tables.inside) c.in_ok-mixers.mixers c.in_ok-mixers.ensures.states c.in_ok-mixers.ensures.stand
+
+pub add_layer-requires : goal.add_layer-requires
+add_layer-requires c =
+    let plan = c.args.plan.now in
+    let tables = the_view c.tables.inside in
+    let of_plan : AreTablesOf plan tables = subst (AreTablesOf plan) (sym c.tables.view_is) c.in_ok-tables.ensures in
+    let within : c.loop-layer.layer ≤ plan.layers = omega (arith, c.loop-layer-test.true, ap (λ p. p.layers) c.plan.view_is) in
+    let low =
+    c.deref.ensures.value
+    ∙ read_layer (λ layer. layer.items) c.tables.inside.low.items c.loop-layer.layer c.index.result.now
+    (omega (arith, of_plan.low.layers, within)) c.index.ensures in
+    let high =
+    c.deref-in-loop-layer.ensures.value
+    ∙ read_layer (λ layer. layer.items) c.tables.inside.high.items c.loop-layer.layer c.index-in-loop-layer.result.now
+    (omega (arith, of_plan.high.layers, within)) c.index-in-loop-layer.ensures in
+    let took = c.loop-layer.invariant in
+    record {
+      sound = c.requires.sound;
+      states = took.states;
+      stand = some_columns plan tables c.loop-layer.layer c.loop-layer.mixers took;
+      room = λ s l. omega (arith, taken plan tables c.loop-layer.layer c.loop-layer.mixers took s l, within);
+      low_states = omega (arith, ap length low, (of_plan.low.layer c.loop-layer.layer within).states, took.states);
+      high_states = omega (arith, ap length high, (of_plan.high.layer c.loop-layer.layer within).states, took.states);
+      low_words =
+          subst (λ (ws : List ℕ). All (λ w. w ≤ one_word) ws) (sym low)
+          (low_words plan tables c.requires.sound of_plan c.loop-layer.layer within);
+      high_words =
+          subst (λ (ws : List ℕ). All (λ w. w ≤ one_word) ws) (sym high)
+          (high_words plan tables c.requires.sound of_plan c.loop-layer.layer within);
+    }
+
+pub loop-layer-preserved : goal.loop-layer-preserved
+loop-layer-preserved c =
+    let tables = the_view c.tables.inside in
+    let of_plan : AreTablesOf c.args.plan.now tables = subst (AreTablesOf c.args.plan.now) (sym c.tables.view_is) c.in_ok-tables.ensures in
+    let within : c.loop-layer.layer ≤ c.args.plan.now.layers = omega (arith, c.loop-layer-test.true, ap (λ p. p.layers) c.plan.view_is) in
+    let low =
+    c.deref.ensures.value
+    ∙ read_layer (λ layer. layer.items) c.tables.inside.low.items c.loop-layer.layer c.index.result.now
+    (omega (arith, of_plan.low.layers, within)) c.index.ensures in
+    let high =
+    c.deref-in-loop-layer.ensures.value
+    ∙ read_layer (λ layer. layer.items) c.tables.inside.high.items c.loop-layer.layer c.index-in-loop-layer.result.now
+    (omega (arith, of_plan.high.layers, within)) c.index-in-loop-layer.ensures in
+    took_more c.args.plan.now tables c.loop-layer.layer c.loop-layer.mixers c.loop-layer.invariant c.deref.result.now
+    c.deref-in-loop-layer.result.now c.add_layer.new.self low high c.add_layer.ensures.states c.add_layer.ensures.stand
+
+pub finish-requires-clause-stand : goal.finish-requires-clause-stand
+finish-requires-clause-stand c =
+    some_columns c.args.plan.now (the_view c.tables.inside) c.loop-layer.layer c.loop-layer.mixers c.loop-layer.invariant
+
+pub finish-requires-clause-whole : goal.finish-requires-clause-whole
+finish-requires-clause-whole c = λ s l.
+    omega (
+      arith,
+      taken c.args.plan.now (the_view c.tables.inside) c.loop-layer.layer c.loop-layer.mixers c.loop-layer.invariant s l,
+      c.loop-layer-test.false,
+      c.loop-layer.auto.layer-end,
+      ap (λ p. p.layers) c.plan.view_is,
+    )
 
 pub returns-clause-mixes : goal.returns-clause-mixes
 returns-clause-mixes c =
-    let sound = subst IsSoundPlan (sym c.plan.view_is) c.requires.sound in
-    let weights = c.in-Poisson.weights in
-    let bits = c.in-Poisson.bits in
-    let tables = c.in_ok-tables.tables in
-    IfOk-weaker c.mixed_brackets.result _ (λ mixes. AreMixesOf c.args.plan.now mixes.items)
-    (λ mixes are. subst (λ p. AreMixesOf p mixes.items) c.plan.view_is (record {
-      weights = weights;
-      bits = bits;
-      is_mix = c.in-Poisson.is;
-      tables = tables;
-      of_plan = subst (λ p. AreTablesOf p tables) (sym c.plan.view_is) c.in_ok-tables.ensures;
-      are = are ∙ ap (first_mixes c.plan.inside.layers bits weights tables) (omega (arith, c.len-states.ensures, sound.start_states));
-    }))
-    c.mixed_brackets.ensures
-
-pub returns-clause-words : goal.returns-clause-words
-returns-clause-words c =
-    let sound = subst IsSoundPlan (sym c.plan.view_is) c.requires.sound in
-    let mix = subst (IsSoundMix c.plan.inside.layers) c.in-Poisson.is sound.mix in
-    let tables = c.in_ok-tables.tables in
-    IfOk-weaker c.mixed_brackets.result _ (λ mixes. All (λ mix. mix.lower ≤ 2 ^ 62) mixes.items)
-    (λ mixes are.
-    lower_words c.plan.inside.layers c.in-Poisson.bits c.len-states.result c.in-Poisson.weights tables mixes.items are mix.weights_sound
-    (read_low_words c.args.plan.now _ c.len-states.result tables c.requires.sound c.in_ok-tables.ensures c.plan.view_is
-    (omega (arith, c.len-states.ensures))))
-    c.mixed_brackets.ensures
-
-pub returns-clause-upper_words : goal.returns-clause-upper_words
-returns-clause-upper_words c =
-    IfOk-weaker c.mixed_brackets.result _ (λ mixes. All (λ mix. mix.upper ≤ 2 ^ 62) mixes.items)
-    (λ mixes are.
-    upper_words c.plan.inside.layers c.in-Poisson.bits c.len-states.result c.in-Poisson.weights c.in_ok-tables.tables mixes.items are)
-    c.mixed_brackets.ensures
+    let tables = the_view c.tables.inside in
+    let of_plan : AreTablesOf c.args.plan.now tables = subst (AreTablesOf c.args.plan.now) (sym c.tables.view_is) c.in_ok-tables.ensures in
+    let whole : c.loop-layer.layer ≡ suc c.args.plan.now.layers =
+    omega (arith, c.loop-layer-test.false, c.loop-layer.auto.layer-end, ap (λ p. p.layers) c.plan.view_is) in
+    ok_both c.finish.result _ _ (λ mixes. AreMixesOf c.args.plan.now mixes.items)
+    (λ mixes counted are.
+    mixes_of_tables c.args.plan.now tables c.loop-layer.layer c.loop-layer.mixers mixes.items c.loop-layer.invariant whole of_plan counted
+    are)
+    c.finish.ensures.states c.finish.ensures.mixes

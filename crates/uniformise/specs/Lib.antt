@@ -1,0 +1,3 @@
+pub mod TimePlan
+-- what the functions' own steps say
+pub mod UniformisedRow

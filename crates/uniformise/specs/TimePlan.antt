@@ -1,0 +1,53 @@
+-- The plan of a time-bounded until, and when there is none.
+use Rattle.std.specs.Prelude.{◌≡◌, ℕ, suc, ◌*◌, ◌<◌, ◌≤◌, ◌^◌, All, if◌then◌else◌, nat_lt, Option, Some, None}
+use Rattle.ctmc_semantics.specs.Chain.{Chain}
+use Rattle.ctmc_semantics.specs.Fraction.{Fraction}
+use Rattle.ctmc_semantics.specs.Horizon.{horizon}
+use Rattle.ctmc_semantics.specs.Uniformised.{time_load, uniform_rate, uniformised}
+use Rattle.ctmc_semantics.specs.Weights.{mode}
+use Rattle.decimal_text.specs.DecimalNumber.{DecimalNumber}
+use Rattle.poisson_tail.specs.declared.layers.TheConstants.{MOST_LAYERS}
+use Rattle.step_core.specs.FrameLists.{SetLists}
+use Rattle.step_core.specs.FrameRows.{StandFor}
+use Rattle.step_core.specs.PlanLists.{PlanLists}
+use Rattle.step_core.specs.PlanLoad.{FitsPoisson}
+use Rattle.step_core.specs.SoundPlan.{IsSoundPlan}
+use Rattle.step_core.specs.WeightLists.{WeightLists}
+use Rattle.step_core.specs.declared.mix.Mix.TheVariants.{Poisson}
+use Rattle.step_core.specs.declared.plan_error.PlanError.{PlanError}
+use Rattle.step_core.specs.declared.plan_error.PlanError.TheVariants.{TooLong, TooLarge}
+use Rattle.uniformise.specs.declared.time_bound.TheConstants.{MOST_WORDS}
+use Rattle.uniformise.specs.declared.time_bound.TimeBound.{TimeBound}
+
+-- the plan is that of reaching the goal through live states within the load's time: it is sound, its rows stand for the uniformised chain,
+-- over that chain's rate, its sets are these, its weights are the load's, and its last layer is the load's horizon
+pub record IsTimePlan (chain : Chain) (load : Fraction) (bits : ℕ) (sets : SetLists) (plan : PlanLists) : Type 0 where
+  pub sound : IsSoundPlan plan
+  pub rows : StandFor plan.frame.rows (uniformised chain)
+  pub divisors : All (λ row. row.den ≡ uniform_rate chain) plan.frame.rows
+  pub sets_are : plan.frame.sets ≡ sets
+  pub weights : WeightLists
+  pub is_mix : plan.mix ≡ Poisson weights bits
+  pub fits : FitsPoisson load plan.layers weights bits
+
+-- a table of the numbers of jumps up to `last` has a word for each of them and each state
+abbrev pub plan_refusal : ℕ → ℕ → Option PlanError
+plan_refusal last states =
+    if nat_lt MOST_LAYERS last then Some TooLong
+    else (if nat_lt MOST_WORDS (suc last * states) then Some TooLarge else None)
+
+-- jumps are looked at up to the horizon of the load, past which at most `2^-bits` is left
+abbrev pub time_refusal : Chain → ℕ → ℕ → DecimalNumber → Option PlanError
+time_refusal chain rate_decimals bits time =
+    plan_refusal (horizon (time_load chain rate_decimals time.c time.x) bits) chain.states
+
+-- what a plan needs of a time bound over the chain: its horizon is the load's, which is none too far, the weights have their greatest by
+-- then, and the jumps have the uniformised chain's rate
+pub record IsTimeBound (chain : Chain) (bound : TimeBound) : Type 0 where
+  pub last : bound.last ≡ horizon bound.load bound.bits
+  pub some_bits : 8 ≤ bound.bits
+  pub few_bits : bound.bits ≤ 48
+  pub few : bound.last ≤ MOST_LAYERS
+  pub has_mode : mode bound.load ≤ bound.last
+  pub uniform : bound.uniform ≡ uniform_rate chain
+  pub fits : bound.uniform < 2 ^ 63
