@@ -1,4 +1,5 @@
 """The rounded level: words of 2^-62, rounded down or up at every step, of which the printed bytes are a function."""
+import collections
 import functools
 import math
 
@@ -63,14 +64,30 @@ def until_words(chain, live, goal, time, bits):
     last = horizon(load, bits)
     mix = Mix(load, last, bits)
     weights, total = uniformised(chain)
-    # A state that isn't live, or is always left for itself, keeps the word 0 or 1 that it has at first, so it needs no steps;
-    # in a large chain with few transitions these are nearly all.
-    moving = [state for state in sorted(live - goal) if weights[state] != [(state, total)]]
+    # A state from which the goal can't be reached has the word 0 throughout, and one of the goal 1, so these need no steps; in
+    # a large chain with few transitions they are nearly all.
+    moving = sorted(reaching(weights, live, goal) - goal)
     low_sums, high_sums = column_sums(weights, total, goal, moving, mix, last)
-    words = [(ONE, ONE) if state in goal else mix.words(0, 0) for state in range(chain.states)]
+    words = [(ONE, ONE) if state in goal else (0, 0) for state in range(chain.states)]
     for state in moving:
         words[state] = mix.words(low_sums[state], high_sums[state])
     return words
+
+
+def reaching(weights, live, goal):
+    """The states of the goal, and those from which jumps lead to it by live states alone."""
+    sources = collections.defaultdict(list)
+    for state in live - goal:
+        for target, share in weights[state]:
+            if share > 0:
+                sources[target].append(state)
+    reached, waiting = set(goal), list(goal)
+    while waiting:
+        for state in sources[waiting.pop()]:
+            if state not in reached:
+                reached.add(state)
+                waiting.append(state)
+    return reached
 
 
 def column_sums(weights, total, goal, moving, mix, last):
