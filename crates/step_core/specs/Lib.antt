@@ -13,3 +13,4 @@ pub mod Walk
 pub mod WeightLists
 -- what is computed
 pub mod WalkFound
+pub mod WordPairs

@@ -14,6 +14,7 @@ mod sets;
 mod tables;
 mod watch;
 mod weights;
+mod words;
 
 pub use bracket::Bracket;
 pub use frame::Frame;
@@ -27,3 +28,4 @@ pub use sets::Sets;
 pub use tables::Tables;
 pub use watch::Watch;
 pub use weights::Weights;
+pub use words::Words;

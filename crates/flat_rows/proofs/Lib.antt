@@ -1,0 +1,13 @@
+pub mod Additions
+pub mod FixedWords
+pub mod Flattens
+pub mod LongRanges
+pub mod NextParts
+pub mod PlacedRows
+pub mod Powers
+pub mod Quotients
+pub mod RowFractions
+pub mod RowValues
+pub mod ShortParts
+pub mod SmallFrame
+pub mod Writes

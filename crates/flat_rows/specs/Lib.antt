@@ -1,0 +1,11 @@
+pub mod AddedRow
+pub mod Fractions
+pub mod NextWords
+pub mod PlacedRow
+pub mod RowWords
+pub mod RowsOf
+pub mod SideWords
+-- what the functions' own steps are
+pub mod Laid
+pub mod ShortLists
+pub mod Written
