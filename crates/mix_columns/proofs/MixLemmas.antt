@@ -125,14 +125,19 @@ module _ (plan : PlanLists) (m : MixNumbers) (xs ys : List ℕ) (weights : Weigh
   pub weight_left : (hw : ℕ) → m.count ≤ plan.layers → hw ≡ high m.count → hw ≤ m.rest
   weight_left hw room e = omega (arith, rest_is, e, sum_below-front (suc m.count) (suc plan.layers) high (omega arith))
 
-  module _ (x y lw hw : ℕ) (room : m.count ≤ plan.layers) (x_word : x ≤ 2 ^ 62) (y_word : y ≤ 2 ^ 62)
+  pub two_left : (hw hv : ℕ) → m.count < plan.layers → hw ≡ high m.count → hv ≡ high (m.count + 1) → hw + hv ≤ m.rest
+  two_left hw hv room e f =
+      let next : m.count + 1 ≡ suc m.count = omega arith in
+      omega (arith, rest_is, e, f, ap high next, sum_below-front (suc (suc m.count)) (suc plan.layers) high (omega arith))
+
+  module _ (x y lw hw kept_low kept_high : ℕ) (room : m.count ≤ plan.layers) (x_word : x ≤ 2 ^ 62) (y_word : y ≤ 2 ^ 62)
       (lw_is : lw ≡ low m.count) (hw_is : hw ≡ high m.count) where
     pub added : StandsFor plan record {
       count = m.count + 1;
       low = m.low + lw * x / 2 ^ 14;
       high = m.high + div_ceil (hw * y) (2 ^ 14);
-      last_low = x;
-      last_high = y;
+      last_low = kept_low;
+      last_high = kept_high;
       low_divisor = m.low_divisor;
       high_divisor = m.high_divisor;
       rest = m.rest - hw;
@@ -156,8 +161,7 @@ module _ (plan : PlanLists) (m : MixNumbers) (xs ys : List ℕ) (weights : Weigh
           ∙ sum_below-same m.count (λ k. div_ceil (high k * slice_index ys k) (2 ^ 14))
           (λ k. div_ceil (high k * get_or (ys ++ y ∷ []) k 0) (2 ^ 14))
           (λ k l. ap (λ z. div_ceil (high k * z) (2 ^ 14)) (sym (old_word ys y k 0 (omega (arith, stands.high_count)))))));
-      last_low = last_added xs x m.count 0 stands.low_count;
-      last_high = last_added ys y m.count one_word stands.high_count;
+      last = rw is tt;
       low_divisor = stands.low_divisor;
       high_divisor = stands.high_divisor;
       rest = rw (is, add-one m.count) (omega (arith, rest_is, weight_left hw room hw_is, hw_is));
@@ -188,8 +192,9 @@ module _ (plan : PlanLists) (m : MixNumbers) (xs ys : List ℕ) (x y : ℕ) (sta
     high_words = All-push (λ w. w ≤ 2 ^ 62) ys y stands.high_words y_word;
     low = let old = rw is at stands.low in rw is old;
     high = let old = rw is at stands.high in rw is old;
-    last_low = last_added xs x m.count 0 stands.low_count;
-    last_high = last_added ys y m.count one_word stands.high_count;
+    last =
+        rw is
+        (record { low = last_added xs x m.count 0 stands.low_count; high = last_added ys y m.count one_word stands.high_count });
     low_divisor = stands.low_divisor;
     high_divisor = stands.high_divisor;
     rest = let old = rw is at stands.rest in rw is old;

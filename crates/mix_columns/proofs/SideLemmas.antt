@@ -1,5 +1,5 @@
 -- The mixers of all states, one after another.
-use Rattle.std.proofs.Common.{◌≡◌, ℕ, suc, ◌+◌, ◌≤◌, ◌<◌, List, [], ◌∷◌, length, take, drop, ◌++◌, get_or, replicate, refl, sym, ap}
+use Rattle.std.proofs.Common.{◌≡◌, ℕ, suc, ◌+◌, ◌≤◌, ◌<◌, List, [], ◌∷◌, length, take, drop, ◌++◌, replicate, refl, sym, ap}
 use Rattle.std.proofs.Common.{subst, ◌∙◌, arith}
 use Rattle.std.proofs.Math.Seq.{take-append_seam}
 use Rattle.std.proofs.Math.Decide.{dec_le}
@@ -8,7 +8,11 @@ use Rattle.std.proofs.lemmas.List.FromFn.{get_or-map-range_with_len, length-map-
 use Rattle.std.specs.Prelude.{EachIndex}
 use Rattle.step_core.specs.PlanLists.{PlanLists}
 use Rattle.step_core.specs.SoundPlan.{IsSoundPlan}
+use Rattle.step_core.specs.WordPairs.{words_at}
 use Rattle.step_core.specs.declared.bracket.Bracket.{Bracket}
+use Rattle.step_core.specs.declared.words.Words.{Words}
+use Rattle.mix_columns.specs.declared.state_sums.StateSums.{StateSums}
+use Rattle.mix_columns.specs.LayerSums.{sums_at}
 use Rattle.mix_columns.specs.MixNumbers.{MixNumbers, StandsFor}
 use Rattle.mix_columns.specs.Mixed.{whole_mix, words_of}
 use Rattle.mix_columns.specs.SideBySide.{SharedNumbers, numbers_at, mixers_of, mixer_at, bracket_at}
@@ -18,60 +22,67 @@ pub written : {X : Type 0} (len : ℕ) (new old : List X) → length old ≡ len
     → take len (new ++ drop (length new) old) ≡ new
 written len new old e f = rw (← f) (take-append_seam new (drop (length new) old))
 
-module _ (shared : SharedNumbers) (low high last_low last_high : List ℕ) where
-  pub mixers_counted : length (mixers_of shared low high last_low last_high) ≡ length low
-  mixers_counted = length-map-range_with_len (numbers_at shared low high last_low last_high) 0 (length low)
+module _ (shared : SharedNumbers) (sums : List StateSums) (last : List Words) where
+  pub mixers_counted : length (mixers_of shared sums last) ≡ length sums
+  mixers_counted = length-map-range_with_len (numbers_at shared sums last) 0 (length sums)
 
-  pub mixer_is : (s : ℕ) → s < length low
-      → mixer_at (mixers_of shared low high last_low last_high) s ≡ numbers_at shared low high last_low last_high s
+  pub mixer_is : (s : ℕ) → s < length sums
+      → mixer_at (mixers_of shared sums last) s ≡ numbers_at shared sums last s
   mixer_is s l =
-      get_or-map-range_with_len (numbers_at shared low high last_low last_high) 0 (length low) s s _ l (omega arith)
+      get_or-map-range_with_len (numbers_at shared sums last) 0 (length sums) s s _ l (omega arith)
 
-module _ (shared : SharedNumbers) (low high last_low last_high : List ℕ) (mixers : List MixNumbers)
-    (view : mixers_of shared low high last_low last_high ≡ mixers) where
-  pub states_are : length low ≡ length mixers
-  states_are = sym (mixers_counted shared low high last_low last_high) ∙ ap length view
+module _ (shared : SharedNumbers) (sums : List StateSums) (last : List Words) (mixers : List MixNumbers)
+    (view : mixers_of shared sums last ≡ mixers) where
+  pub states_are : length sums ≡ length mixers
+  states_are = sym (mixers_counted shared sums last) ∙ ap length view
 
-  pub at_is : (s : ℕ) → s < length low → mixer_at mixers s ≡ numbers_at shared low high last_low last_high s
-  at_is s l = ap (λ ms. mixer_at ms s) (sym view) ∙ mixer_is shared low high last_low last_high s l
+  pub at_is : (s : ℕ) → s < length sums → mixer_at mixers s ≡ numbers_at shared sums last s
+  at_is s l = ap (λ ms. mixer_at ms s) (sym view) ∙ mixer_is shared sums last s l
 
   module _ (plan : PlanLists) where
-    pub stands_inside : (s : ℕ) (xs ys : List ℕ) → s < length low → StandsFor plan (mixer_at mixers s) xs ys
-        → StandsFor plan (numbers_at shared low high last_low last_high s) xs ys
+    pub stands_inside : (s : ℕ) (xs ys : List ℕ) → s < length sums → StandsFor plan (mixer_at mixers s) xs ys
+        → StandsFor plan (numbers_at shared sums last s) xs ys
     stands_inside s xs ys l = subst (λ m. StandsFor plan m xs ys) (at_is s l)
 
-    pub some_inside : EachIndex mixers (λ s. (xs ys : List ℕ) × StandsFor plan (mixer_at mixers s) xs ys) → (s : ℕ) → s < length low
-        → (xs ys : List ℕ) × StandsFor plan (numbers_at shared low high last_low last_high s) xs ys
+    pub some_inside : EachIndex mixers (λ s. (xs ys : List ℕ) × StandsFor plan (mixer_at mixers s) xs ys) → (s : ℕ) → s < length sums
+        → (xs ys : List ℕ) × StandsFor plan (numbers_at shared sums last s) xs ys
     some_inside stand s l =
         let some = stand s (omega (arith, states_are)) in
         (some.0, some.1, stands_inside s some.0 some.1 l some.2)
 
     pub room_inside : IsSoundPlan plan → length mixers ≡ length plan.frame.rows
-        → EachIndex mixers (λ s. (mixer_at mixers s).count ≤ plan.layers) → (0 < length low) × (shared.count ≤ plan.layers)
+        → EachIndex mixers (λ s. (mixer_at mixers s).count ≤ plan.layers) → (0 < length sums) × (shared.count ≤ plan.layers)
     room_inside sound states room =
-        let some : 0 < length low = omega (arith, states_are, sound.frame.some) in
+        let some : 0 < length sums = omega (arith, states_are, sound.frame.some) in
         let at = room 0 (omega (arith, states_are)) in
         (some, omega (arith, at, ap (λ m. m.count) (at_is 0 some)))
 
--- ---- a copy for each state
-copied : (xs : List ℕ) (n s x : ℕ) → xs ≡ replicate n x → s < n → get_or xs s 0 ≡ x
-copied xs n s x e l = rw e (get_or-replicate n s x 0 l)
+    pub room_below : IsSoundPlan plan → length mixers ≡ length plan.frame.rows
+        → EachIndex mixers (λ s. (mixer_at mixers s).count < plan.layers)
+        → EachIndex mixers (λ s. (mixer_at mixers s).count ≤ plan.layers) × (shared.count < plan.layers)
+    room_below sound states room =
+        let some : 0 < length sums = omega (arith, states_are, sound.frame.some) in
+        let at = room 0 (omega (arith, states_are)) in
+        (λ s l. omega (arith, room s l), omega (arith, at, ap (λ m. m.count) (at_is 0 some)))
 
-pub copy_is : (shared : SharedNumbers) (low high last_low last_high : List ℕ) (n s a b d e : ℕ) → low ≡ replicate n a
-    → high ≡ replicate n b → last_low ≡ replicate n d → last_high ≡ replicate n e → s < n
-    → numbers_at shared low high last_low last_high s
+-- ---- a copy for each state
+pub copy_is : (shared : SharedNumbers) (sums : List StateSums) (last : List Words) (n s : ℕ) (z : StateSums) (w : Words)
+    → sums ≡ replicate n z → last ≡ replicate n w → s < n
+    → numbers_at shared sums last s
     ≡ record {
       count = shared.count;
-      low = a;
-      high = b;
-      last_low = d;
-      last_high = e;
+      low = z.low;
+      high = z.high;
+      last_low = w.low;
+      last_high = w.high;
       low_divisor = shared.low_divisor;
       high_divisor = shared.high_divisor;
       rest = shared.rest;
     }
-copy_is shared low high last_low last_high n s a b d e p q r t l =
-    rw (copied low n s a p l, copied high n s b q l, copied last_low n s d r l, copied last_high n s e t l) refl
+copy_is shared sums last n s z w e f l =
+    let sums_is : sums_at sums s ≡ z = rw e (get_or-replicate n s z _ l) in
+    let last_is : words_at last s ≡ w = rw f (get_or-replicate n s w _ l) in
+    rw (sums_is, last_is) refl
 
 -- ---- the brackets of one state more
 pub mixes_more : (plan : PlanLists) (mixers : List MixNumbers) (brackets : List Bracket) (n : ℕ) (b : Bracket) (m : MixNumbers)

@@ -1,3 +1,4 @@
+pub mod LayerSums
 pub mod MixLaws
 pub mod MixNumbers
 pub mod Mixed

@@ -9,8 +9,8 @@ use Rattle.step_core.specs.declared.mix.Mix.{Mix}
 use Rattle.step_core.specs.declared.mix.Mix.TheVariants.{Poisson, Last}
 
 -- the number of pairs of words that were added, the sums of the lower and of the upper words' products with the weights, the last pair
--- (0 and 1 where there is none), what the two sums are divided by in the end, and the sum of the high weights of the layers that are
--- missing
+-- (0 and 1 where there is none, and any where the mix doesn't need it), what the two sums are divided by in the end, and the sum of the
+-- high weights of the layers that are missing
 pub record MixNumbers : Type 0 where
   pub count : ℕ
   pub low : ℕ
@@ -41,6 +41,16 @@ abbrev pub high_sum : Mix → ℕ → (ℕ → ℕ) → ℕ
 high_sum (Poisson weights bits) n y = sum_below n (λ k. div_ceil (slice_index weights.high k * y k) (2 ^ 14))
 high_sum Last n y = 0
 
+-- the mixer's last pair is that of the two columns
+pub record HasLast (m : MixNumbers) (xs ys : List ℕ) : Type 0 where
+  pub low : m.last_low ≡ slice_index_or xs (m.count - 1) 0
+  pub high : m.last_high ≡ slice_index_or ys (m.count - 1) one_word
+
+-- the mixer keeps the last pair if its mix needs it: the averages of a bounded until don't
+abbrev pub KeepsLast : Mix → MixNumbers → List ℕ → List ℕ → Type 0
+KeepsLast (Poisson weights bits) m xs ys = Unit {0}
+KeepsLast Last m xs ys = HasLast m xs ys
+
 -- the mixer stands for the plan and two columns, the lower and the upper words of the first layers: they are no longer than the plan's own,
 -- no word is above 1, and the numbers are those of the plan and the columns
 pub record StandsFor (plan : PlanLists) (m : MixNumbers) (xs ys : List ℕ) : Type 0 where
@@ -51,8 +61,7 @@ pub record StandsFor (plan : PlanLists) (m : MixNumbers) (xs ys : List ℕ) : Ty
   pub high_words : All (λ w. w ≤ one_word) ys
   pub low : m.low ≡ low_sum plan.mix m.count (slice_index xs)
   pub high : m.high ≡ high_sum plan.mix m.count (slice_index ys)
-  pub last_low : m.last_low ≡ slice_index_or xs (m.count - 1) 0
-  pub last_high : m.last_high ≡ slice_index_or ys (m.count - 1) one_word
+  pub last : KeepsLast plan.mix m xs ys
   pub low_divisor : m.low_divisor ≡ div_ceil (high_weights plan.mix (suc plan.layers)) (2 ^ 14)
   pub high_divisor : m.high_divisor ≡ low_weights plan.mix (suc plan.layers) / 2 ^ 14
   pub rest : high_weights plan.mix m.count + m.rest ≡ high_weights plan.mix (suc plan.layers)

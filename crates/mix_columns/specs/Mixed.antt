@@ -5,6 +5,7 @@ use Rattle.ctmc_semantics.specs.RoundedTables.{one_word}
 use Rattle.ctmc_semantics.specs.Sets.{holds_at}
 use Rattle.ctmc_semantics.specs.WordBracket.{WordBracket, settle}
 use Rattle.step_core.specs.PlanLists.{PlanLists}
+use Rattle.step_core.specs.PlanTables.{plan_low, plan_high}
 use Rattle.step_core.specs.declared.bracket.Bracket.{Bracket}
 use Rattle.step_core.specs.declared.mix.Mix.{Mix}
 use Rattle.step_core.specs.declared.mix.Mix.TheVariants.{Poisson, Last}
@@ -33,6 +34,10 @@ rest_mix plan xs ys = plan_mix plan (λ k. slice_index_or xs k 0) (λ k. slice_i
 -- the state's settled bracket: 1 where it surely is the goal, 0 where it can't reach the goal, and else its mix
 abbrev pub plan_settle : PlanLists → ℕ → WordBracket → WordBracket
 plan_settle plan s mixed = settle (holds_at plan.frame.sets.goal_must s) (holds_at plan.reach s) mixed
+
+-- a state's bracket as one thread computes it: the settled mix of its words in the plan's tables
+abbrev pub one_thread_words : PlanLists → ℕ → WordBracket
+one_thread_words plan s = plan_settle plan s (plan_mix plan (λ k. plan_low plan k s) (λ k. plan_high plan k s))
 
 -- the words that a bracket has
 abbrev pub words_of : Bracket → WordBracket

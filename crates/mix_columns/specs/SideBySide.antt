@@ -1,8 +1,12 @@
 -- The mixers of all states, side by side.
-use Rattle.std.specs.Prelude.{◌≡◌, ℕ, ◌<◌, List, length, map, slice_index, slice_index_or}
+use Rattle.std.specs.Prelude.{◌≡◌, ℕ, ◌<◌, List, length, map, slice_index_or}
 use Rattle.std.specs.List.{range_with_len}
 use Rattle.step_core.specs.PlanLists.{PlanLists}
+use Rattle.step_core.specs.WordPairs.{words_at}
 use Rattle.step_core.specs.declared.bracket.Bracket.{Bracket}
+use Rattle.step_core.specs.declared.words.Words.{Words}
+use Rattle.mix_columns.specs.declared.state_sums.StateSums.{StateSums}
+use Rattle.mix_columns.specs.LayerSums.{sums_at}
 use Rattle.mix_columns.specs.Mixed.{whole_mix, words_of}
 use Rattle.mix_columns.specs.MixNumbers.{MixNumbers, StandsFor}
 
@@ -14,28 +18,21 @@ pub record SharedNumbers : Type 0 where
   pub rest : ℕ
 
 -- the numbers of a state's mixer, of the shared ones and those of each state
-abbrev pub numbers_at : SharedNumbers → List ℕ → List ℕ → List ℕ → List ℕ → ℕ → MixNumbers
-numbers_at shared low high last_low last_high s = record {
+abbrev pub numbers_at : SharedNumbers → List StateSums → List Words → ℕ → MixNumbers
+numbers_at shared sums last s = record {
   count = shared.count;
-  low = slice_index low s;
-  high = slice_index high s;
-  last_low = slice_index last_low s;
-  last_high = slice_index last_high s;
+  low = (sums_at sums s).low;
+  high = (sums_at sums s).high;
+  last_low = (words_at last s).low;
+  last_high = (words_at last s).high;
   low_divisor = shared.low_divisor;
   high_divisor = shared.high_divisor;
   rest = shared.rest;
 }
 
 -- the numbers of all mixers
-abbrev pub mixers_of : SharedNumbers → List ℕ → List ℕ → List ℕ → List ℕ → List MixNumbers
-mixers_of shared low high last_low last_high =
-    map (numbers_at shared low high last_low last_high) (range_with_len 0 (length low))
-
--- there is a number of each of the n states
-pub record HaveStates (n : ℕ) (high last_low last_high : List ℕ) : Type 0 where
-  pub high_states : length high ≡ n
-  pub last_low_states : length last_low ≡ n
-  pub last_high_states : length last_high ≡ n
+abbrev pub mixers_of : SharedNumbers → List StateSums → List Words → List MixNumbers
+mixers_of shared sums last = map (numbers_at shared sums last) (range_with_len 0 (length sums))
 
 -- the state's mixer
 abbrev pub mixer_at : List MixNumbers → ℕ → MixNumbers

@@ -2,10 +2,12 @@
 #![tactic(auto)]
 
 mod laws;
+mod layer_weights;
 mod mixer;
 mod mixers;
 mod quotients;
 mod settled;
+mod state_sums;
 mod sums;
 #[cfg(test)]
 mod tests;

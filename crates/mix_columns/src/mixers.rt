@@ -1,45 +1,48 @@
 // The mixers of all states.
 
-ghost use Rattle.std.specs.Prelude.{◌≡◌, ℕ, suc, ◌<◌, ◌≤◌, List, [], ◌∷◌, ◌++◌, All, EachIndex, IfOk, length, slice_index};
+ghost use Rattle.std.specs.Prelude.{◌≡◌, ℕ, suc, ◌<◌, ◌≤◌, List, [], ◌∷◌, ◌++◌, All, EachIndex, IfOk, length};
 ghost use Rattle.mix_columns.specs.MixNumbers.{StandsFor};
 ghost use Rattle.mix_columns.specs.SideBySide.{AreMixes, mixer_at};
 ghost use Rattle.step_core.specs.SoundPlan.{IsSoundPlan};
+ghost use Rattle.step_core.specs.WordPairs.{ArePairs, high_of, low_of};
 
+use crate::layer_weights::LayerWeights;
 use crate::mixer::Mixer;
-use crate::sums::{add_ceils, add_floors};
+use crate::state_sums::StateSums;
+use crate::sums::{add_one, add_two};
 use round_out::ONE;
 use std::alloc::{AllocError, Global};
 use std::marker::Model;
-use step_core::{Bracket, Mix, Plan};
+use step_core::{Bracket, Mix, Plan, Words};
 
-/// A mixer of each state of a plan, side by side: they take a layer of words at a time.
+/// A mixer of each state of a plan, side by side: they take layers of words, one or two at a time.
 ///
-/// What the mixers share is kept once, and their sums lie in the order of the states, so that a layer
-/// is read from its start to its end. Contracts see the list of the mixers.
+/// What the mixers share is kept once, and both sums of a state lie side by side in the order of the
+/// states, so that a layer is read from its start to its end. Of a bounded until nothing but the
+/// sums is written: the last pair of words is kept only for an unbounded one. Contracts see the list
+/// of the mixers.
 #[derive(Debug, Drop)]
 pub struct Mixers {
     count: u32,
-    low: Vec<u128>,
-    high: Vec<u128>,
-    last_low: Vec<u64>,
-    last_high: Vec<u64>,
+    sums: Vec<StateSums>,
+    last: Vec<Words>,
     low_divisor: u64,
     high_divisor: u64,
     rest: u128,
 }
 
 impl Model for Mixers {
-    ghost use Rattle.std.specs.Prelude.{List, length};
+    ghost use Rattle.std.specs.Prelude.{◌≡◌, List, length};
     ghost use Rattle.mix_columns.specs.MixNumbers.{MixNumbers};
-    ghost use Rattle.mix_columns.specs.SideBySide.{HaveStates, mixers_of};
+    ghost use Rattle.mix_columns.specs.SideBySide.{mixers_of};
 
     ghost Value = { List MixNumbers };
 
     ghost view = { λ m. mixers_of
         record { count = m.count; low_divisor = m.low_divisor; high_divisor = m.high_divisor; rest = m.rest }
-        m.low.items m.high.items m.last_low.items m.last_high.items };
+        m.sums.items m.last.items };
 
-    ghost invariant = { λ m. HaveStates (length m.low.items) m.high.items m.last_low.items m.last_high.items };
+    ghost invariant = { λ m. length m.last.items ≡ length m.sums.items };
 }
 
 impl Mixers {
@@ -60,45 +63,75 @@ impl Mixers {
         ensures states { IfOk result (λ mixers. length mixers ≡ states) }
         ensures copies { IfOk result (λ mixers. EachIndex mixers (λ s. mixer_at mixers s ≡ fresh)) }
     {
-        let low = vec![in alloc; fresh.low; states]?;
-        let high = vec![in alloc; fresh.high; states]?;
-        let last_low = vec![in alloc; fresh.last_low; states]?;
-        let last_high = vec![in alloc; fresh.last_high; states]?;
+        let no_sums = StateSums {
+            low: fresh.low,
+            high: fresh.high,
+        };
+        let no_words = Words {
+            low: fresh.last_low,
+            high: fresh.last_high,
+        };
+        let sums = vec![in alloc; no_sums; states]?;
+        let last = vec![in alloc; no_words; states]?;
         Ok(Mixers {
             count: fresh.count,
-            low,
-            high,
-            last_low,
-            last_high,
+            sums,
+            last,
             low_divisor: fresh.low_divisor,
             high_divisor: fresh.high_divisor,
             rest: fresh.rest,
         })
     }
 
-    /// Each mixer takes its state's lower and upper word in the next layer.
-    pub fn add_layer(&mut self, plan: &Plan, low: &[u64], high: &[u64])
+    /// Each mixer takes its state's words in the next layer.
+    pub fn add_layer(&mut self, plan: &Plan, words: &[Words])
         requires sound { IsSoundPlan plan.now }
         requires states { length self.old ≡ length plan.now.frame.rows }
         requires stand { EachIndex self.old (λ s. (xs ys : List ℕ) × StandsFor plan.now (mixer_at self.old s) xs ys) }
         requires room { EachIndex self.old (λ s. (mixer_at self.old s).count ≤ plan.now.layers) }
-        requires low_states { length low.now ≡ length self.old }
-        requires high_states { length high.now ≡ length self.old }
-        requires low_words { All (λ w. w ≤ ONE) low.now }
-        requires high_words { All (λ w. w ≤ ONE) high.now }
+        requires layer_states { length words.now ≡ length self.old }
+        requires pairs { ArePairs words.now }
         ensures states { length self.new ≡ length self.old }
         ensures stand { (s : ℕ) (xs ys : List ℕ) → s < length self.old → StandsFor plan.now (mixer_at self.old s) xs ys
-            → StandsFor plan.now (mixer_at self.new s) (xs ++ slice_index low.now s ∷ []) (ys ++ slice_index high.now s ∷ []) }
+            → StandsFor plan.now (mixer_at self.new s) (xs ++ low_of words.now s ∷ []) (ys ++ high_of words.now s ∷ []) }
     {
         let layer = self.count as usize;
         self.count += 1;
-        self.last_low.copy_from_slice(low);
-        self.last_high.copy_from_slice(high);
-        if let Mix::Poisson(weights, _) = &plan.mix {
-            let high_weight = weights.high[layer];
-            self.rest -= u128::from(high_weight);
-            add_floors(&mut self.low, weights.low[layer], low);
-            add_ceils(&mut self.high, high_weight, high);
+        match &plan.mix {
+            Mix::Poisson(weights, _) => {
+                let here = LayerWeights::of(weights, layer);
+                self.rest -= u128::from(here.high);
+                add_one(&mut self.sums, here, words);
+            }
+            Mix::Last => self.last.copy_from_slice(words),
+        }
+    }
+
+    /// Each mixer takes its state's words in the next two layers, in one pass over the states.
+    pub fn add_two_layers(&mut self, plan: &Plan, first: &[Words], second: &[Words])
+        requires sound { IsSoundPlan plan.now }
+        requires states { length self.old ≡ length plan.now.frame.rows }
+        requires stand { EachIndex self.old (λ s. (xs ys : List ℕ) × StandsFor plan.now (mixer_at self.old s) xs ys) }
+        requires room { EachIndex self.old (λ s. (mixer_at self.old s).count < plan.now.layers) }
+        requires first_states { length first.now ≡ length self.old }
+        requires second_states { length second.now ≡ length self.old }
+        requires first_pairs { ArePairs first.now }
+        requires second_pairs { ArePairs second.now }
+        ensures states { length self.new ≡ length self.old }
+        ensures stand { (s : ℕ) (xs ys : List ℕ) → s < length self.old → StandsFor plan.now (mixer_at self.old s) xs ys
+            → StandsFor plan.now (mixer_at self.new s) (xs ++ low_of first.now s ∷ [] ++ low_of second.now s ∷ [])
+            (ys ++ high_of first.now s ∷ [] ++ high_of second.now s ∷ []) }
+    {
+        let layer = self.count as usize;
+        self.count += 2;
+        match &plan.mix {
+            Mix::Poisson(weights, _) => {
+                let here = LayerWeights::of(weights, layer);
+                let next = LayerWeights::of(weights, layer + 1);
+                self.rest -= u128::from(here.high) + u128::from(next.high);
+                add_two(&mut self.sums, here, first, next, second);
+            }
+            Mix::Last => self.last.copy_from_slice(second),
         }
     }
 
@@ -106,7 +139,7 @@ impl Mixers {
     fn states(&self) -> usize
         ensures { result ≡ length self.now }
     {
-        self.low.len()
+        self.sums.len()
     }
 
     /// The state's mixer.
@@ -114,12 +147,14 @@ impl Mixers {
         requires { state < length self.now }
         ensures { result ≡ mixer_at self.now state }
     {
+        let sums = self.sums[state];
+        let last = self.last[state];
         Mixer {
             count: self.count,
-            low: self.low[state],
-            high: self.high[state],
-            last_low: self.last_low[state],
-            last_high: self.last_high[state],
+            low: sums.low,
+            high: sums.high,
+            last_low: last.low,
+            last_high: last.high,
             low_divisor: self.low_divisor,
             high_divisor: self.high_divisor,
             rest: self.rest,

@@ -9,7 +9,7 @@ use super::{Mixer, Mixers, settle};
 use round_out::{Entry, ONE};
 use std::alloc::{AllocError, Global};
 use std::test::Fail;
-use step_core::{Bracket, Frame, Mix, Plan, Row, Sets, Weights};
+use step_core::{Bracket, Frame, Mix, Plan, Row, Sets, Weights, Words};
 
 const LOW: [u64; 3] = [1_234_567_890_123_456_789, ONE, 987_654_321_098_765];
 
@@ -17,18 +17,45 @@ const HIGH: [u64; 3] = [1_234_567_890_123_456_790, ONE, 987_654_321_098_766];
 
 const THIRD: u64 = ONE / 3;
 
-// The lower and the upper words of the three states, layer after layer: of the first state they are
-// small, of the second large, and of the third 1/4 everywhere.
-const LOWER: [[u64; 3]; 3] = [
-    [0, 3, ONE / 4],
-    [1_000_000_007, THIRD, ONE / 4],
-    [ONE / 2, ONE - 9, ONE / 4],
-];
-
-const UPPER: [[u64; 3]; 3] = [
-    [1, 5, ONE / 4],
-    [1_000_000_009, THIRD + 1, ONE / 4],
-    [ONE / 2 + 3, ONE - 8, ONE / 4],
+// The words of the three states, layer after layer: of the first state they are small, of the second
+// large, and of the third 1/4 everywhere.
+const LAYERS: [[Words; 3]; 3] = [
+    [
+        Words { low: 0, high: 1 },
+        Words { low: 3, high: 5 },
+        Words {
+            low: ONE / 4,
+            high: ONE / 4,
+        },
+    ],
+    [
+        Words {
+            low: 1_000_000_007,
+            high: 1_000_000_009,
+        },
+        Words {
+            low: THIRD,
+            high: THIRD + 1,
+        },
+        Words {
+            low: ONE / 4,
+            high: ONE / 4,
+        },
+    ],
+    [
+        Words {
+            low: ONE / 2,
+            high: ONE / 2 + 3,
+        },
+        Words {
+            low: ONE - 9,
+            high: ONE - 8,
+        },
+        Words {
+            low: ONE / 4,
+            high: ONE / 4,
+        },
+    ],
 ];
 
 fn row(alloc: Global, den: u64, entries: &[Entry]) -> Result<Row, AllocError>
@@ -139,6 +166,19 @@ fn whole_words(plan: &Plan, fresh: Mixer, low: &[u64], high: &[u64]) -> (u64, u6
     (bracket.lower, bracket.upper)
 }
 
+// The brackets of the three states, by mixers that take two layers in one pass, and then the third.
+fn brackets_of_two(alloc: Global, plan: &Plan) -> Result<Vec<Bracket>, AllocError>
+    requires sound { IsSoundPlan plan.now }
+    requires layers { plan.now.layers ≡ 2 }
+    requires states { length plan.now.frame.rows ≡ 3 }
+    ensures { IfOk result (λ brackets. length brackets.items ≡ 3) }
+{
+    let mut mixers = Mixers::start(alloc, plan)?;
+    mixers.add_two_layers(plan, &LAYERS[0], &LAYERS[1]);
+    mixers.add_layer(plan, &LAYERS[2]);
+    mixers.finish(alloc, plan)
+}
+
 // The brackets of the three states, by mixers that take a layer at a time.
 fn all_brackets(alloc: Global, plan: &Plan) -> Result<Vec<Bracket>, AllocError>
     requires sound { IsSoundPlan plan.now }
@@ -148,7 +188,7 @@ fn all_brackets(alloc: Global, plan: &Plan) -> Result<Vec<Bracket>, AllocError>
 {
     let mut mixers = Mixers::start(alloc, plan)?;
     for layer in 0..3usize {
-        mixers.add_layer(plan, &LOWER[layer], &UPPER[layer]);
+        mixers.add_layer(plan, &LAYERS[layer]);
     }
     mixers.finish(alloc, plan)
 }
@@ -179,6 +219,10 @@ fn brackets_are_the_mixes_of_columns(rt: HostRuntime) -> Result<(), Fail> {
     ];
     assert_eq!(rt; words, expected);
     let brackets = all_brackets(rt.alloc(), &plan)?;
+    for (bracket, words) in brackets.iter().zip(&expected) {
+        assert_eq!(rt; (bracket.lower, bracket.upper), *words);
+    }
+    let brackets = brackets_of_two(rt.alloc(), &plan)?;
     for (bracket, words) in brackets.iter().zip(&expected) {
         assert_eq!(rt; (bracket.lower, bracket.upper), *words);
     }
@@ -230,6 +274,8 @@ fn an_unbounded_until_takes_the_last_words(rt: HostRuntime) -> Result<(), Fail> 
     );
     assert_eq!(rt; (brackets[1].lower, brackets[1].upper), (ONE - 9, ONE - 8));
     assert_eq!(rt; (brackets[2].lower, brackets[2].upper), (ONE / 4, ONE / 4));
+    let by_two = brackets_of_two(rt.alloc(), &plan)?;
+    assert_eq!(rt; by_two.as_slice(), brackets.as_slice());
     Ok(())
 }
 

@@ -1,7 +1,5 @@
 pub mod ExactAnswers
 pub mod ExactSets
-pub mod PlanMixes
-pub mod PlanColumns
 pub mod ChainWalks
 pub mod PlanWords
 pub mod Rounding

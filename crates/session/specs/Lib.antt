@@ -23,5 +23,4 @@ pub mod FormulaAnswer
 pub mod Ends
 pub mod TruthLists
 pub mod PlanFault
-pub mod PlanMixes
 pub mod Reading

@@ -8,10 +8,9 @@ use Rattle.ctmc_semantics.specs.Sets.{known_exactly}
 use Rattle.ctmc_semantics.specs.Threshold.{Comparison}
 use Rattle.ctmc_semantics.specs.Uniformised.{uniformised}
 use Rattle.ctmc_semantics.specs.WordBracket.{WordBracket, word_bracket, settle, until_words}
-use Rattle.mix_columns.specs.Mixed.{plan_settle, words_of}
+use Rattle.mix_columns.specs.Mixed.{words_of}
 use Rattle.mix_columns.specs.SideBySide.{bracket_at}
 use Rattle.step_core.specs.FrameLists.{SetLists}
-use Rattle.step_core.specs.PlanLists.{PlanLists}
 use Rattle.step_core.specs.WalkFound.{can_reach}
 use Rattle.step_core.specs.declared.bracket.Bracket.{Bracket}
 use Rattle.session.specs.BracketAnswer.{bracket_answer}
@@ -35,13 +34,13 @@ first_answers words by q n = map (λ s. words_answer by (words s) q) (range_with
 abbrev pub until_answers : Chain → Fraction → ℕ → (ℕ → Bool) → (ℕ → Bool) → Comparison → Fraction → List StateAnswer
 until_answers chain load bits live goal by q = first_answers (state_words chain load bits live goal) by q chain.states
 
--- the words of a state by the plan, where the mixes of all states are listed
-abbrev pub settled_words : PlanLists → List Bracket → ℕ → WordBracket
-settled_words plan mixes s = plan_settle plan s (words_of (bracket_at mixes s))
+-- the words of a state, where the brackets of all states are listed
+abbrev pub listed_words : List Bracket → ℕ → WordBracket
+listed_words brackets s = words_of (bracket_at brackets s)
 
--- the answers at all states by the plan and their mixes
-abbrev pub settled_answers : PlanLists → List Bracket → Comparison → Fraction → List StateAnswer
-settled_answers plan mixes by q = first_answers (settled_words plan mixes) by q (length mixes)
+-- the answers at all states by their brackets
+abbrev pub bracket_answers : List Bracket → Comparison → Fraction → List StateAnswer
+bracket_answers brackets by q = first_answers (listed_words brackets) by q (length brackets)
 
 -- both sets of an until, where they are known exactly and listed
 abbrev pub exact_sets : List Bool → List Bool → SetLists

@@ -9,6 +9,7 @@ use std::str;
 use std::test::Fail;
 use std::thread::Threads;
 
+mod engine;
 mod failing;
 mod files;
 mod limits;

@@ -50,7 +50,7 @@ returns c = λ xs ys h.
           read_word w.weights.inside.high.items _ c.self.inside.count _ (ap (λ w. w.high) w.weights.view_is)
           (high_inside plan _ xs ys _ _ c.requires.sound stands is room) w.index-high_weight.ensures in
           rw (w.self-inside-is, w.floor_units.ensures.value, w.ceil_units.ensures.value, w.from.ensures)
-          (added plan _ xs ys _ _ c.requires.sound stands is c.args.low c.args.high w.index.result.now w.index-high_weight.result.now
+          (added plan _ xs ys _ _ c.requires.sound stands is c.args.low c.args.high w.index.result.now w.index-high_weight.result.now _ _
           room c.requires.low c.requires.high low high)
           )
       | in_default w ↦ (

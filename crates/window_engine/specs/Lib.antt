@@ -1,0 +1,2 @@
+pub mod FiveStates
+pub mod PlanLayers
