@@ -7,7 +7,7 @@ use lost::Lost;
 use outside::{DiskFiles, OpenGate, StdinSource, StdoutSink};
 use session::{Fault, Status, serve};
 use std::alloc::AllocError;
-use std::io::{Read, Write};
+use std::io::{BufWriter, Read, Write};
 use std::process::ExitCode;
 use std::rt::{Env, Files};
 use std::{env, io};
@@ -15,7 +15,12 @@ use std::{env, io};
 fn main(rt: HostRuntime) -> ExitCode {
     let mut files = DiskFiles::new(&rt);
     let mut formulas = StdinSource::new(rt.stdin());
-    let mut out = StdoutSink::new(rt.stdout());
+    // Lines go to the system many at a time: of a large chain there are tens of thousands.
+    let Ok(stdout) = BufWriter::with_capacity(rt.alloc(), 1 << 16, rt.stdout()) else {
+        let _ = rt.eprintln(Lost::Memory);
+        return ExitCode::from(Status::Memory.exit_code());
+    };
+    let mut out = StdoutSink::new(stdout);
     let status = match words(&rt) {
         Ok(words) => serve(
             &rt,
