@@ -1,5 +1,14 @@
+pub mod BetterLemmas
+pub mod CoreLemmas
 pub mod Entries
+pub mod GoodLemmas
 pub mod Layers
+pub mod LimitLemmas
+pub mod MeetLemmas
+pub mod NoteLayers
+pub mod OpeningLemmas
+pub mod PlaceLemmas
 pub mod PlanTableLemmas
+pub mod RowLemmas
 pub mod SmallModels
 pub mod Walks

@@ -1,5 +1,14 @@
+pub mod BoardRule
+pub mod CoreFits
+pub mod CoreLists
+pub mod EventRoom
+pub mod Events
 pub mod FrameLists
 pub mod FrameRows
+pub mod Good
+pub mod GoodLaws
+pub mod Limits
+pub mod Places
 pub mod PlanLaws
 pub mod PlanLists
 pub mod PlanLoad
@@ -12,5 +21,6 @@ pub mod TableLists
 pub mod Walk
 pub mod WeightLists
 -- what is computed
+pub mod MeetSteps
 pub mod WalkFound
 pub mod WordPairs

@@ -1,6 +1,8 @@
 // The laws of sound plans, each the contract of a function.
 ghost use Rattle.step_core.specs.PlanLaws.{FrameRowsAreWhole, LowTableRounds, HighTableRounds, BoundedHighTableRounds};
 ghost use Rattle.step_core.specs.PlanLaws.{UnboundedHighTableIsAbove};
+ghost use Rattle.step_core.specs.GoodLaws.{WordsLieBeside, FirstLayerIsDone, SealsAreSetOrNot, FirstLayerIsSealed, SealedIsDone};
+ghost use Rattle.step_core.specs.GoodLaws.{NotesAreNoBetter, SealNotesAreNoBetter};
 ghost use Rattle.step_core.specs.ReachLaws.{WalksAreFound};
 
 /// The numbers of each row of a sound frame add up to its divisor, which is positive.
@@ -21,4 +23,16 @@ pub fn plan_tables_round()
 /// between.
 pub fn walks_are_found()
     ensures { WalksAreFound }
+{}
+
+/// Over a good machine each word lies on its side of the tables, layer 0 and each sealed block are
+/// at the tables, and no note of a live pass is better than its word.
+pub fn good_machine_bounds()
+    ensures words { WordsLieBeside }
+    ensures first_layer { FirstLayerIsDone }
+    ensures seals { SealsAreSetOrNot }
+    ensures first_seals { FirstLayerIsSealed }
+    ensures sealed { SealedIsDone }
+    ensures notes { NotesAreNoBetter }
+    ensures seal_notes { SealNotesAreNoBetter }
 {}

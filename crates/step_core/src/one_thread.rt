@@ -104,4 +104,4 @@ pub fn plain_tables(alloc: Global, plan: &Plan) -> Result<Tables, AllocError>
 }
 
 #[cfg(test)]
-mod tests;
+pub(crate) mod tests;

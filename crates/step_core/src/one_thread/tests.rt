@@ -67,7 +67,7 @@ fn two_states(alloc: Global) -> Result<Plan, AllocError>
 
 // A state that stays with the probability 1/2 and jumps to the goal or to a trap with 1/4 each, and
 // a state that jumps to it, for an unbounded until.
-fn four_states(alloc: Global) -> Result<Plan, AllocError>
+pub(crate) fn four_states(alloc: Global) -> Result<Plan, AllocError>
     ensures { IfOk result IsSoundPlan }
 {
     let first = row(

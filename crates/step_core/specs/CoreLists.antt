@@ -1,0 +1,37 @@
+-- What contracts see of the pure machine: the words of a board, and what each pass knows of them.
+use Rattle.std.specs.Prelude.{ℕ, List, [], ◌∷◌, slice_index, slice_index_or, Bool, true, false}
+use Rattle.step_core.specs.Limits.{sizes_of, opening_words}
+use Rattle.step_core.specs.Places.{Sizes, lower_place, upper_place, seal_place}
+use Rattle.step_core.specs.PlanLists.{PlanLists}
+
+-- a pass: whether it is live, and its note of each word
+pub record PassLists : Type 0 where
+  pub live : Bool
+  pub notes : List ℕ
+
+pub record CoreLists : Type 0 where
+  pub sizes : Sizes
+  pub words : List ℕ
+  pub passes : List PassLists
+
+-- the pass with a number; one that isn't there isn't live
+abbrev pub pass_at : CoreLists → ℕ → PassLists
+pass_at core pass = slice_index_or core.passes pass record { live = false; notes = [] }
+
+-- the words of a list, of a board's words or of a pass's notes, by what they are of
+abbrev pub lower_at : Sizes → List ℕ → ℕ → ℕ → ℕ
+lower_at z words k s = slice_index words (lower_place z k s)
+
+abbrev pub upper_at : Sizes → List ℕ → ℕ → ℕ → ℕ
+upper_at z words k s = slice_index words (upper_place z k s)
+
+abbrev pub seal_at : Sizes → List ℕ → ℕ → ℕ → ℕ
+seal_at z words k b = slice_index words (seal_place z k b)
+
+-- the machine at the start: one pass, which knows all words
+abbrev pub opening : PlanLists → CoreLists
+opening plan = record {
+  sizes = sizes_of plan;
+  words = opening_words plan;
+  passes = record { live = true; notes = opening_words plan } ∷ [];
+}
