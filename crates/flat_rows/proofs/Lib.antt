@@ -1,11 +1,13 @@
 pub mod Additions
+pub mod EntryRanges
 pub mod FixedWords
 pub mod Flattens
-pub mod LongRanges
 pub mod NextParts
 pub mod PlacedRows
 pub mod Powers
 pub mod Quotients
+pub mod ReadyRows
+pub mod ReadyValues
 pub mod RowFractions
 pub mod RowValues
 pub mod ShortParts

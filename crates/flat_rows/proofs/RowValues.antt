@@ -26,7 +26,7 @@ use Rattle.flat_rows.proofs.Quotients.{same_floor, same_ceil, ceil_only}
 use Rattle.flat_rows.proofs.RowFractions.{same_products}
 
 -- the word of a state that is live and not of the goal
-quotient : (g l : Bool) (q : ℕ) → (l && not g) ≡ true → q ≡ cond g one_word (cond l q 0)
+pub quotient : (g l : Bool) (q : ℕ) → (l && not g) ≡ true → q ≡ cond g one_word (cond l q 0)
 quotient false true q h = refl
 quotient false false q h = absurd (false≢true h)
 quotient true true q h = absurd (false≢true h)

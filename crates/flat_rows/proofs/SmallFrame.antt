@@ -10,7 +10,7 @@ use Rattle.step_core.specs.SoundFrame.{Ascend, IsSoundRow, AreSoundSets, IsSound
 use Rattle.step_core.proofs.SmallModels.{jump, row_of}
 
 -- each number is below the next, step by step
-abbrev Ascends : List ℕ → Type 0
+abbrev pub Ascends : List ℕ → Type 0
 Ascends [] = Unit {0}
 Ascends (x ∷ []) = Unit {0}
 Ascends (x ∷ y ∷ xs) = (x < y) × Ascends (y ∷ xs)
@@ -24,7 +24,7 @@ ascend (x ∷ y ∷ xs) h (suc i) l =
     let m : i + 1 < length (y ∷ xs) = omega arith in
     rw e (ascend (y ∷ xs) h.1 i m)
 
-sound_row : (n den : ℕ) (entries : List Entry) → AllByRecursion (λ e. e.to < n) entries → Ascends (map (λ e. e.to) entries)
+pub sound_row : (n den : ℕ) (entries : List Entry) → AllByRecursion (λ e. e.to < n) entries → Ascends (map (λ e. e.to) entries)
     → AllByRecursion (λ e. 0 < e.num) entries → sum_by (λ e. e.num) entries ≡ den → 0 < den → den < 2 ^ 63
     → IsSoundRow n (row_of den entries)
 sound_row n den entries targets up numbers whole some fits = record {

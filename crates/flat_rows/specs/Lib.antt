@@ -5,6 +5,7 @@ pub mod PlacedRow
 pub mod RowWords
 pub mod RowsOf
 pub mod SideWords
+pub mod StateRows
 -- what the functions' own steps are
 pub mod Laid
 pub mod ShortLists

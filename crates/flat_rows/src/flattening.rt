@@ -9,6 +9,19 @@ use crate::sides::Sides;
 use std::alloc::{AllocError, Global};
 use step_core::{Row, Sets};
 
+/// Whether the state's lower and its upper word are a quotient of its row.
+pub(crate) fn needs_row(sets: &Sets, reach: &[bool], state: usize) -> (bool, bool)
+    requires sets { AreSoundSets (length sets.now.goal_must) sets.now }
+    requires reach { length reach.now ≡ length sets.now.goal_must }
+    requires inside { state < length sets.now.goal_must }
+    ensures low { result.0 ≡ low_needs_row sets.now reach.now state }
+    ensures high { result.1 ≡ high_needs_row sets.now reach.now state }
+{
+    let low = sets.live_must[state] && !sets.goal_must[state] && reach[state];
+    let high = sets.live_may[state] && !sets.goal_may[state] && reach[state];
+    (low, high)
+}
+
 /// Which words of the state are a quotient of its row, if any.
 fn sides_of(sets: &Sets, reach: &[bool], state: usize) -> Option<Sides>
     requires sets { AreSoundSets (length sets.now.goal_must) sets.now }
@@ -18,8 +31,7 @@ fn sides_of(sets: &Sets, reach: &[bool], state: usize) -> Option<Sides>
     ensures none { IfNone result ((low_needs_row sets.now reach.now state ≡ false)
         × (high_needs_row sets.now reach.now state ≡ false)) }
 {
-    let low = sets.live_must[state] && !sets.goal_must[state] && reach[state];
-    let high = sets.live_may[state] && !sets.goal_may[state] && reach[state];
+    let (low, high) = needs_row(sets, reach, state);
     if low && high {
         Some(Sides::Both)
     } else if low {

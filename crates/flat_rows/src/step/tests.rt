@@ -3,11 +3,14 @@
 // Its rows have 1, 2, 3 and 9 entries, and two have other divisors. A state is the goal, one may be
 // the goal, one may be live, and the last one can't reach the goal.
 
-ghost use Rattle.std.specs.Prelude.{◌≡◌, ◌+◌, ◌≤◌, All, IfOk, length};
+ghost use Rattle.std.specs.Prelude.{◌≡◌, ◌+◌, ◌<◌, ◌≤◌, All, IfOk, length};
 ghost use Rattle.step_core.specs.SoundFrame.{IsSoundRow, IsSoundFrame};
 ghost use Rattle.step_core.specs.WordPairs.{ArePairs};
+ghost use Rattle.flat_rows.specs.StateRows.{AreStateRows};
 
 use crate::flattening::flatten;
+use crate::row_words::row_words;
+use crate::state_rows::StateRows;
 use crate::step::next_words;
 use round_out::{Entry, ONE};
 use std::alloc::{AllocError, Global};
@@ -201,6 +204,17 @@ fn next_part(alloc: Global, first: usize, count: usize) -> Result<Vec<Words>, Al
     Ok(next)
 }
 
+// Both words of a state's row.
+fn state_words(frame: &Frame, reach: &[bool], ready: &StateRows, words: &[Words], s: u32) -> Words
+    requires ready { AreStateRows frame.now.rows frame.now.sets reach.now ready.now }
+    requires states { length words.now ≡ length frame.now.rows }
+    requires words { ArePairs words.now }
+    requires state { s < length frame.now.rows }
+{
+    let row = ready.row(s);
+    row_words(row.entries, row.divisor, words)
+}
+
 #[test]
 fn a_step_has_the_words_of_all_states(rt: HostRuntime) -> Result<(), Fail> {
     let next = next_part(rt.alloc(), 0, 9)?;
@@ -214,5 +228,22 @@ fn a_step_has_the_words_of_either_half(rt: HostRuntime) -> Result<(), Fail> {
     assert_eq!(rt; first_half.as_slice(), FIRST_HALF.as_slice());
     let second_half = next_part(rt.alloc(), 4, 5)?;
     assert_eq!(rt; second_half.as_slice(), SECOND_HALF.as_slice());
+    Ok(())
+}
+
+#[test]
+fn the_rows_of_states_have_the_words_of_a_step(rt: HostRuntime) -> Result<(), Fail> {
+    let frame = frame(rt.alloc())?;
+    let ready = StateRows::new(rt.alloc(), &frame.rows, &frame.sets, &REACH)?;
+    let words = layer(rt.alloc(), 9)?;
+    // Rows of 1, 2 and 9 entries, and one with another divisor.
+    assert_eq!(rt; state_words(&frame, &REACH, &ready, &words, 0), WHOLE[0]);
+    assert_eq!(rt; state_words(&frame, &REACH, &ready, &words, 1), WHOLE[1]);
+    assert_eq!(rt; state_words(&frame, &REACH, &ready, &words, 3), WHOLE[3]);
+    assert_eq!(rt; state_words(&frame, &REACH, &ready, &words, 5), WHOLE[5]);
+    // One that may not be live, one that may be the goal, and one that can't reach it.
+    assert_eq!(rt; (ready.row(6).low, ready.row(6).high), (false, true));
+    assert_eq!(rt; (ready.row(7).low, ready.row(7).high), (true, false));
+    assert_eq!(rt; (ready.row(8).low, ready.row(8).high), (false, false));
     Ok(())
 }
