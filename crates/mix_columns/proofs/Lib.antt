@@ -5,3 +5,4 @@ pub mod MixLawLemmas
 pub mod SideLemmas
 pub mod LayerLemmas
 pub mod SmallPlans
+pub mod PlanUntilLemmas

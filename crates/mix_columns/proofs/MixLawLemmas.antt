@@ -1,11 +1,13 @@
 -- The mix of more words is narrower.
-use Rattle.std.proofs.Common.{◌≡◌, ℕ, suc, ◌≤◌, ◌<◌, List, length, take, get_or, length-take, arith}
+use Rattle.std.proofs.Common.{◌≡◌, ℕ, suc, ◌≤◌, ◌<◌, List, length, take, get_or, length-take, Bool, true, false, refl, arith}
 use Rattle.std.proofs.Math.Decide.{dec_le}
 use Rattle.std.proofs.lemmas.List.{get_or_default, get_or_past, get_or-take}
 use Rattle.std.proofs.lemmas.List.Elements.{All-take}
 use Rattle.std.specs.List.{All}
+use Rattle.std.specs.Prelude.{slice_index}
 use Rattle.ctmc_semantics.specs.RoundedTables.{one_word}
-use Rattle.ctmc_semantics.proofs.MixNarrow.{mix_low_rises, mix_high_rises}
+use Rattle.ctmc_semantics.specs.WordBracket.{WordBracket, settle}
+use Rattle.ctmc_semantics.proofs.MixNarrow.{mix_low_rises, mix_high_rises, mix_low_reads, mix_high_reads}
 use Rattle.step_core.specs.PlanLists.{PlanLists}
 use Rattle.step_core.specs.SoundPlan.{IsSoundPlan, IsSoundMix}
 use Rattle.step_core.specs.declared.mix.Mix.{Mix}
@@ -23,6 +25,27 @@ mix_rises last (Poisson weights bits) x y low high sound h i = record {
   upper = mix_high_rises last bits _ _ high y (low_some last weights sound.weights_sound) i;
 }
 mix_rises last Last x y low high sound h i = record { lower = h last (omega arith); upper = i last (omega arith) }
+
+-- the mix reads no other layer
+pub mix_reads : (last : ℕ) (mix : Mix) (x y x' y' : ℕ → ℕ) → ((k : ℕ) → k ≤ last → x k ≡ x' k) → ((k : ℕ) → k ≤ last → y k ≡ y' k)
+    → mixed_words last mix x y ≡ mixed_words last mix x' y'
+mix_reads last (Poisson weights bits) x y x' y' h i =
+    let low : ℕ → ℕ = slice_index weights.low in
+    let high : ℕ → ℕ = slice_index weights.high in
+    let lower = mix_low_reads last low high x low high x' (λ k l. refl) (λ k l. refl) h in
+    let upper = mix_high_reads last bits low high y low high y' (λ k l. refl) (λ k l. refl) i in
+    λ t. record { lower = lower t; upper = upper t }
+mix_reads last Last x y x' y' h i =
+    let lower = h last (omega arith) in
+    let upper = i last (omega arith) in
+    λ t. record { lower = lower t; upper = upper t }
+
+-- settled brackets lie in one another as they did before
+pub settled_rises : (is_goal can_reach : Bool) (outer inner : WordBracket) → EnclosesWords outer inner
+    → EnclosesWords (settle is_goal can_reach outer) (settle is_goal can_reach inner)
+settled_rises true can_reach outer inner h = record { lower = omega arith; upper = omega arith }
+settled_rises false true outer inner h = h
+settled_rises false false outer inner h = record { lower = omega arith; upper = omega arith }
 
 -- ---- columns of which the words past place j are missing
 module _ (xs : List ℕ) (j : ℕ) where

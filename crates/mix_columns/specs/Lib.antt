@@ -2,4 +2,5 @@ pub mod LayerSums
 pub mod MixLaws
 pub mod MixNumbers
 pub mod Mixed
+pub mod PlanUntil
 pub mod SideBySide

@@ -13,7 +13,7 @@ mod sums;
 mod tests;
 mod units;
 
-pub use laws::{mix_rises, rest_shrinks};
+pub use laws::{mix_rises, one_thread_contains, rest_shrinks};
 pub use mixer::Mixer;
 pub use mixers::Mixers;
 pub use settled::settle;
