@@ -1,0 +1,9 @@
+pub mod BlockStates
+pub mod DrawnPlan
+pub mod LoadedWords
+pub mod NotePlaces
+pub mod OneEntry
+pub mod PrefixSums
+pub mod RowAims
+pub mod SeenSeals
+pub mod TightState

@@ -1,0 +1,25 @@
+use Rattle.std.proofs.Common.{rules, ◌<◌, ℕ, List, length, ap, ◌∙◌, arith}
+use Rattle.std.proofs.lemmas.Grind.{get_or_default_zero}
+use Rattle.step_core.specs.PlanLists.{PlanLists}
+use Rattle.step_core.specs.PlanTables.{IsLayer, plan_low}
+use Rattle.step_core.proofs.NoteLayers.{table_read}
+use Rattle.tighten_step.proofs.tests.low_word.Goals as goal
+
+pub index-requires : goal.index-requires
+index-requires c =
+    let plan : PlanLists = c.args.plan.now in
+    let layer : IsLayer (length plan.frame.rows) (plan_low plan c.args.k) c.index-layer.result.now.items =
+    table_read (λ v. v.items) c.tables.inside.low.items (ap (λ t. t.low) c.tables.view_is) c.index-layer.ensures c.requires.layer
+    c.requires.tables.low in
+    let inside : c.args.s < length c.index-layer.result.now.items = omega (arith, layer.states, c.requires.state) in
+    search rules
+
+pub returns : goal.returns
+returns c =
+    let plan : PlanLists = c.args.plan.now in
+    let layer : IsLayer (length plan.frame.rows) (plan_low plan c.args.k) c.index-layer.result.now.items =
+    table_read (λ v. v.items) c.tables.inside.low.items (ap (λ t. t.low) c.tables.view_is) c.index-layer.ensures c.requires.layer
+    c.requires.tables.low in
+    c.index.ensures
+    ∙ (get_or_default_zero c.index-layer.result.now.items c.args.s _ (omega (arith, layer.states, c.requires.state))
+    ∙ layer.words c.args.s c.requires.state)
