@@ -45,6 +45,24 @@ fn tighten_states(board: &Board, pass: &mut Pass, k: u32, b: u32)
     }
 }
 
+/// Makes the words of each state of the block final, and seals the block. All of the layer before is
+/// known to be sealed, so no seal is looked at.
+///
+/// The layer is 1 or later.
+pub fn finish_block(board: &Board, pass: &mut Pass, k: u32, b: u32)
+    requires sound { IsSoundPlan board.now.plan }
+    requires pass { IsPassOf board.now pass.old }
+    requires above { 1 ≤ k }
+    requires layer { k ≤ board.now.plan.layers }
+    requires block { b < blocks (sizes_of board.now.plan) }
+    requires before { NotesLayer board.now.plan (notes_of pass.old) (k - 1) }
+    ensures knows { KnowsMore board.now pass.old pass.new }
+    ensures sealed { seal_note board.now pass.new k b ≡ 1 }
+{
+    tighten_states(board, pass, k, b);
+    board.seal(pass, k, b);
+}
+
 /// Looks at every seal of the layer before, makes the words of each state of the block as good as
 /// what the pass knows lets them be, and seals the block where all those seals were set. Says
 /// whether they were.

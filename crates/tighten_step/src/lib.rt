@@ -11,5 +11,5 @@ mod state;
 mod tests;
 mod values;
 
-pub use block::tighten_block;
+pub use block::{finish_block, tighten_block};
 pub use state::tighten;
