@@ -1,11 +1,12 @@
 -- What it is for a bracket to contain the until of a plan.
-use Rattle.std.specs.Prelude.{◌≡◌, ℕ, ◌+◌, ◌<◌, ◌≤◌, Bool, length}
+use Rattle.std.specs.Prelude.{◌≡◌, ℕ, ◌+◌, ◌*◌, ◌^◌, ◌<◌, ◌≤◌, Bool, length}
 use Rattle.ctmc_semantics.specs.Bracket.{ContainsFrom, ContainsLimit}
 use Rattle.ctmc_semantics.specs.Fraction.{Fraction}
 use Rattle.ctmc_semantics.specs.Horizon.{greatest_width}
 use Rattle.ctmc_semantics.specs.Jumps.{Jumps}
-use Rattle.ctmc_semantics.specs.JumpValue.{jump_fraction}
+use Rattle.ctmc_semantics.specs.JumpValue.{jump_value, jump_fraction}
 use Rattle.ctmc_semantics.specs.Poisson.{until_average}
+use Rattle.ctmc_semantics.specs.RoundedTables.{one_word, set_words, exact_word}
 use Rattle.ctmc_semantics.specs.Sets.{KnownSets, LieBetween, IsSubset, holds_at}
 use Rattle.ctmc_semantics.specs.WordBracket.{WordBracket, word_bracket}
 use Rattle.mix_columns.specs.Mixed.{one_thread_words}
@@ -64,3 +65,18 @@ OneThreadIsNarrow =
     (plan : PlanLists) (load : Fraction) (weights : WeightLists) (bits s : ℕ) (j : Jumps) → IsSoundPlan plan → plan.mix ≡ Poisson weights bits
     → FitsPlan load plan → AreKnown plan.frame.sets → StandFor plan.frame.rows j → 0 < j.total → s < length plan.frame.rows
     → (one_thread_words plan s).upper ≤ (one_thread_words plan s).lower + greatest_width plan.layers bits
+
+-- the words of an unbounded until are near the exact ones: the lower word is below that of reaching the goal within `last` jumps by at most
+-- `last`, and the upper word is above that of being, after `last` jumps, at the goal or in a state from which it can still be reached, by at
+-- most `last`
+pub record IsNearLast (last : ℕ) (j : Jumps) (live goal reach : ℕ → Bool) (s : ℕ) (words : WordBracket) : Type 0 where
+  pub lower : one_word * jump_value j live goal last s ≤ (words.lower + last) * j.total ^ last
+  pub upper : words.upper * j.total ^ last ≤ exact_word j live goal (set_words reach) last s + last * j.total ^ last
+
+-- where both sets are known exactly, the bracket of an unbounded until as one thread computes it is near the exact words
+abbrev pub OneThreadIsNear : Type 0
+OneThreadIsNear =
+    (plan : PlanLists) (s : ℕ) (j : Jumps) → IsSoundPlan plan → plan.mix ≡ Last → AreKnown plan.frame.sets → StandFor plan.frame.rows j
+    → 0 < j.total → s < length plan.frame.rows
+    → IsNearLast plan.layers j (holds_at plan.frame.sets.live_must) (holds_at plan.frame.sets.goal_must) (holds_at plan.reach) s
+    (one_thread_words plan s)

@@ -1,6 +1,6 @@
 // The laws of the mix, each the contract of a function.
 ghost use Rattle.mix_columns.specs.MixLaws.{MixRises, RestShrinks, RestEnclosesWhole};
-ghost use Rattle.mix_columns.specs.PlanUntil.{OneThreadContains, EnclosingContainsUntil, OneThreadIsNarrow};
+ghost use Rattle.mix_columns.specs.PlanUntil.{OneThreadContains, EnclosingContainsUntil, OneThreadIsNarrow, OneThreadIsNear};
 
 /// The mix of a sound plan never falls when words rise.
 pub fn mix_rises()
@@ -14,11 +14,12 @@ pub fn rest_shrinks()
     ensures whole { RestEnclosesWhole }
 {}
 
-/// A state's bracket as one thread computes it contains the until of the plan, and is narrow where
-/// the sets are known exactly; each bracket that encloses one which contains the until contains it
-/// too.
+/// A state's bracket as one thread computes it contains the until of the plan; where the sets are
+/// known exactly, that of a bounded until is narrow, and that of an unbounded one near the exact
+/// values. Each bracket that encloses one which contains the until contains it too.
 pub fn one_thread_contains()
     ensures contains { OneThreadContains }
     ensures enclosing { EnclosingContainsUntil }
     ensures narrow { OneThreadIsNarrow }
+    ensures near { OneThreadIsNear }
 {}
