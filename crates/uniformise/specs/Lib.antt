@@ -1,3 +1,4 @@
 pub mod TimePlan
+pub mod UnboundedPlan
 -- what the functions' own steps say
 pub mod UniformisedRow

@@ -30,11 +30,13 @@ pub record IsTimePlan (chain : Chain) (load : Fraction) (bits : ℕ) (sets : Set
   pub is_mix : plan.mix ≡ Poisson weights bits
   pub fits : FitsPoisson load plan.layers weights bits
 
--- a table of the numbers of jumps up to `last` has a word for each of them and each state
+-- a table of the numbers of jumps up to `last` has a word for each of them and each state, and none may have too many
+abbrev pub table_refusal : ℕ → ℕ → Option PlanError
+table_refusal last states = if nat_lt MOST_WORDS (suc last * states) then Some TooLarge else None
+
+-- a bounded until may have to look too far
 abbrev pub plan_refusal : ℕ → ℕ → Option PlanError
-plan_refusal last states =
-    if nat_lt MOST_LAYERS last then Some TooLong
-    else (if nat_lt MOST_WORDS (suc last * states) then Some TooLarge else None)
+plan_refusal last states = if nat_lt MOST_LAYERS last then Some TooLong else table_refusal last states
 
 -- jumps are looked at up to the horizon of the load, past which at most `2^-bits` is left
 abbrev pub time_refusal : Chain → ℕ → ℕ → DecimalNumber → Option PlanError

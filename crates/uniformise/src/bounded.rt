@@ -6,13 +6,13 @@ ghost use Rattle.step_core.specs.SoundFrame.{AreSoundSets};
 ghost use Rattle.uniformise.specs.TimePlan.{IsTimePlan, IsTimeBound, time_refusal};
 
 use crate::time_bound::{TimeBound, time_bound};
-use crate::uniformised_rows::uniformised_rows;
+use crate::uniformised_frame::uniformised_frame;
 use decimal_text::Decimal;
 use graph_reach::can_reach;
 use model_core::Model;
 use poisson_tail::weights;
 use std::alloc::{AllocError, Global};
-use step_core::{Frame, Mix, Plan, PlanError, Sets, set_layer};
+use step_core::{Mix, Plan, PlanError, Sets, set_layer};
 
 /// The plan of reaching the goal through live states within the time, over the model's uniformised
 /// chain (Jensen 1953).
@@ -53,8 +53,7 @@ fn plan_within(
     ensures { IfOk result (IsTimePlan (model_chain model.now) bound.now.load bound.now.bits sets) }
 {
     let start_upper = set_layer(alloc, &sets.goal_may)?;
-    let rows = uniformised_rows(alloc, model, bound.uniform)?;
-    let frame = Frame { rows, sets };
+    let frame = uniformised_frame(alloc, model, sets, bound.uniform)?;
     let reach = can_reach(alloc, &frame)?;
     Ok(Plan {
         frame,

@@ -1,9 +1,10 @@
-// What a time bound asks of a plan: its load and its horizon.
+// What a plan's table may have, and what a time bound asks of a plan: its load and its horizon.
 ghost use Rattle.std.specs.Prelude.{◌≡◌, Some, None, ◌<◌, ◌≤◌, ◌^◌, IfOk, MatchResult};
 ghost use Rattle.ctmc_semantics.specs.Uniformised.{greatest_exit_rate, time_load};
 ghost use Rattle.model_core.specs.Model.{model_chain};
-ghost use Rattle.uniformise.specs.TimePlan.{time_refusal, IsTimeBound};
+ghost use Rattle.uniformise.specs.TimePlan.{table_refusal, time_refusal, IsTimeBound};
 
+use crate::exit_rates::greatest_exit_rate;
 use decimal_text::Decimal;
 use model_core::Model;
 use poisson_tail::{Load, horizon};
@@ -24,6 +25,17 @@ pub(crate) struct TimeBound {
     pub(crate) uniform: u64,
 }
 
+/// Why a plan of so many states that looks at so many jumps is refused: its table would have too
+/// many words.
+pub(crate) fn check_words(jumps: u32, states: u32) -> Result<(), PlanError>
+    ensures { MatchResult result (λ _. table_refusal jumps states ≡ None) (λ refusal. table_refusal jumps states ≡ Some refusal) }
+{
+    if (u64::from(jumps) + 1) * u64::from(states) > MOST_WORDS {
+        return Err(PlanError::TooLarge);
+    }
+    Ok(())
+}
+
 /// What a plan needs of the time bound of an until over the model, or why the until is refused.
 pub(crate) fn time_bound(model: &Model, time: Decimal, bits: u32) -> Result<TimeBound, PlanError>
     requires some_bits { 8 ≤ bits }
@@ -39,9 +51,7 @@ pub(crate) fn time_bound(model: &Model, time: Decimal, bits: u32) -> Result<Time
     let Some(last) = horizon(&load, bits) else {
         return Err(PlanError::TooLong);
     };
-    if (u64::from(last) + 1) * u64::from(model.n()) > MOST_WORDS {
-        return Err(PlanError::TooLarge);
-    }
+    check_words(last, model.n())?;
     Ok(TimeBound {
         load,
         last,
@@ -59,16 +69,4 @@ fn time_load(model: &Model, greatest: u64, time: Decimal) -> Load
 {
     let jumps = u128::from(greatest) * u128::from(time.c);
     Load::new(jumps, 10u128.pow(model.scale() + time.x))
-}
-
-// The greatest rate at which a state is left.
-fn greatest_exit_rate(model: &Model) -> u64
-    ensures value { result ≡ greatest_exit_rate (model_chain model.now) }
-    ensures bound { result < 2 ^ 63 }
-{
-    let mut greatest = 0;
-    for s in 0..model.n() {
-        greatest = greatest.max(model.exit(s));
-    }
-    greatest
 }

@@ -2,7 +2,7 @@ use Rattle.std.proofs.Common.{◌≡◌, ◌<◌, ◌^◌}
 use Rattle.ctmc_semantics.specs.Sum.{max_below}
 use Rattle.ctmc_semantics.specs.Chain.{exit_rate}
 use Rattle.model_core.specs.Model.{model_chain}
-use Rattle.uniformise.proofs.time_bound.greatest_exit_rate.Given as goal
+use Rattle.uniformise.proofs.exit_rates.greatest_exit_rate.Given as goal
 
 abbrev pub invariant-loop-s : goal.invariant-loop-s
 invariant-loop-s l = record {
