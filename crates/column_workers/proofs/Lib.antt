@@ -1,0 +1,4 @@
+pub mod HandLemmas
+pub mod Numbered
+pub mod StrideLemmas
+pub mod TakenLemmas

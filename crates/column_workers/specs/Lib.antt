@@ -1,0 +1,4 @@
+pub mod Watched
+-- the functions' own steps
+pub mod Strides
+pub mod Hands
