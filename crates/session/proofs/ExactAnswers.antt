@@ -1,26 +1,26 @@
 -- The answers that are computed are exact.
-use Rattle.std.proofs.Common.{◌≡◌, ℕ, ◌<◌, ◌≤◌, ◌+◌, ◌↔◌, Bool, true, false, IsTrue, refl, sym, subst, ◌∙◌, arith}
+use Rattle.std.proofs.Common.{◌≡◌, ℕ, ◌<◌, ◌↔◌, Bool, true, false, IsTrue, refl, sym, subst, ◌∙◌, arith}
 use Rattle.std.proofs.lemmas.Bool.{false≢true}
-use Rattle.ctmc_semantics.specs.Bracket.{Bracket, HasEnds, ContainsFrom}
+use Rattle.ctmc_semantics.specs.Bracket.{Bracket, HasEnds}
 use Rattle.ctmc_semantics.specs.Compared.{meets_threshold}
 use Rattle.ctmc_semantics.specs.Fraction.{Fraction}
-use Rattle.ctmc_semantics.specs.Horizon.{greatest_width}
 use Rattle.ctmc_semantics.specs.RoundedOut.{IsRoundedOut}
 use Rattle.ctmc_semantics.specs.Threshold.{Comparison, Less, AtMost, More, AtLeast, MeetsThreshold, opposite}
 use Rattle.ctmc_semantics.specs.Units.{units_down, units_up}
-use Rattle.ctmc_semantics.specs.Value.{NeverFalls, AreFractions, ValueMeets, ValueFails}
+use Rattle.ctmc_semantics.specs.Value.{ValueMeets, ValueFails}
 use Rattle.ctmc_semantics.specs.VerdictLaws.{Decides}
 use Rattle.ctmc_semantics.specs.Verdict.{last_to_meet, BracketSatisfies, BracketRefutes}
 use Rattle.ctmc_semantics.specs.WordBracket.{WordBracket, word_bracket, settle}
 use Rattle.ctmc_semantics.proofs.ContainsLemmas.{enclosing_contains, rounded_down, rounded_up, rounded_out_encloses}
 use Rattle.ctmc_semantics.proofs.Thresholds.{test_right, opposite_not}
-use Rattle.ctmc_semantics.proofs.VerdictLemmas.{bounded_decided, failing_not_meeting, undecided_inside}
+use Rattle.ctmc_semantics.proofs.VerdictLemmas.{failing_not_meeting, undecided_inside}
 use Rattle.session.specs.BracketAnswer.{decided_verdict, bracket_verdict, printed_units}
 use Rattle.session.specs.ExactState.{IsExactNext, IsExactUntil, IsSettled}
 use Rattle.session.specs.NextAnswer.{point, next_answer}
 use Rattle.session.specs.UntilAnswer.{words_answer}
-use Rattle.session.specs.declared.report.Verdict.{Verdict}
-use Rattle.session.specs.declared.report.Verdict.TheVariants.{Satisfied, Refuted, Undecided}
+use Rattle.session.proofs.Widening.{Widens}
+use Rattle.report.specs.declared.answer.Verdict.{Verdict}
+use Rattle.report.specs.declared.answer.Verdict.TheVariants.{Satisfied, Refuted, Undecided}
 
 satisfied_not_refuted : Satisfied ≡ Refuted → ⊥
 satisfied_not_refuted e = cc
@@ -96,19 +96,17 @@ is_settled false true mixed sure out s o = record {
 }
 is_settled false false mixed sure out s o = record { one = λ h. absurd (false≢true (s h)); none = λ h. (refl, refl) }
 
-words_have_ends : (w : WordBracket) → HasEnds (word_bracket w)
+pub words_have_ends : (w : WordBracket) → HasEnds (word_bracket w)
 words_have_ends w = record { low = omega arith; high = omega arith }
 
-module _ (by : Comparison) (last bits : ℕ) (x : ℕ → Fraction) (q : Fraction) (w : WordBracket) (positive : 0 < q.den)
-    (fractions : AreFractions x) (rises : NeverFalls x) (contains : ContainsFrom (word_bracket w) last x) where
+module _ (by : Comparison) (Contains : Bracket → Type 0) (AreNear : WordBracket → Type 0) (x : ℕ → Fraction) (q : Fraction) (w : WordBracket)
+    (positive : 0 < q.den) (widens : Widens Contains) (contains : Contains (word_bracket w))
+    (decides : Decides (word_bracket w) (λ by q. ValueMeets by x q) (λ by q. ValueFails by x q)) where
   abbrev b : Bracket
   b = word_bracket w
 
   ends : HasEnds b
   ends = words_have_ends w
-
-  decides : Decides b (λ by q. ValueMeets by x q) (λ by q. ValueFails by x q)
-  decides = bounded_decided b last x ends fractions rises contains
 
   says : Says (bracket_verdict by b q) (BracketSatisfies by b q) (BracketRefutes by b q)
   says = bracket_says by b q (λ s r. failing_not_meeting by x q (decides.refuted by q positive r) (decides.satisfied by q positive s))
@@ -120,13 +118,12 @@ module _ (by : Comparison) (last bits : ℕ) (x : ℕ → Fraction) (q : Fractio
   open_threshold e =
       ((λ s. satisfied_not_undecided (sym (says.satisfied.1 s) ∙ e)), (λ r. refuted_not_undecided (sym (says.refuted.1 r) ∙ e)))
 
-  pub words_exact : (sure out_of_reach : Type 0) → w.upper ≤ w.lower + greatest_width last bits
-      → IsSettled sure out_of_reach (printed_units b)
-      → IsExactUntil by last bits x sure out_of_reach q (words_answer by w q)
-  words_exact sure out_of_reach narrow settled =
+  pub words_exact : (sure out_of_reach : Type 0) → AreNear w → IsSettled sure out_of_reach (printed_units b)
+      → IsExactUntil by Contains AreNear x sure out_of_reach q (words_answer by w q)
+  words_exact sure out_of_reach near settled =
       let encloses = rounded_out_encloses b (units_down b.low) (units_up b.high) printed in
       record {
-        contains = λ n h. enclosing_contains _ b (x n) ends encloses (contains n h);
+        contains = widens _ b ends encloses contains;
         meets = λ e. decides.satisfied by q positive (says.satisfied.0 e);
         fails = λ e. decides.refuted by q positive (says.refuted.0 e);
         undecided = λ e.
@@ -135,7 +132,7 @@ module _ (by : Comparison) (last bits : ℕ) (x : ℕ → Fraction) (q : Fractio
         tight = record {
           words = w;
           contains = contains;
-          narrow = narrow;
+          near = near;
           printed = printed;
           satisfied = says.satisfied;
           refuted = says.refuted;

@@ -1,49 +1,53 @@
 -- The answer to a formula is exact.
-use Rattle.std.proofs.Common.{◌≡◌, ◌≢◌, ℕ, suc, ◌+◌, ◌*◌, ◌^◌, ◌<◌, ◌≤◌, Bool, true, false, IsTrue, List, [], ◌∷◌, length, map, replicate, get_or, Option, Some, None, IsSomeAnd, nat_lt, if◌then◌else◌, refl, sym, ap, subst, subst₂, ◌∙◌, arith, length-append}
+use Rattle.std.proofs.Common.{◌≡◌, ◌≢◌, ℕ, suc, ◌+◌, ◌^◌, ◌<◌, ◌≤◌, ◌↔◌, ◌&&◌, Bool, true, false, IsTrue, List, [], length, map, get_or, Option, Some, None, IsSomeAnd, refl, sym, ap, subst, subst₂, ◌∙◌, arith}
 use Rattle.std.specs.List.{range_with_len, slice_get}
 use Rattle.std.proofs.Math.Decide.{dec_le}
-use Rattle.std.proofs.Math.Seq.{get_or-append_seam}
-use Rattle.std.proofs.lemmas.Bool.{false≢true, and_parts, ltb-false}
-use Rattle.std.proofs.lemmas.List.{get_or-map, get_or-replicate, length-map, length-replicate}
+use Rattle.std.proofs.lemmas.Bool.{false≢true, and_parts}
+use Rattle.std.proofs.lemmas.List.{get_or-map, length-map}
 use Rattle.std.proofs.lemmas.List.FromFn.{get_or-map-range_with_len, length-map-range_with_len}
 use Rattle.std.proofs.lemmas.Option.{slice_get-get_or, slice_get_past}
-use Rattle.ctmc_semantics.specs.Bracket.{Bracket, ContainsFrom, Encloses}
+use Rattle.ctmc_semantics.specs.Bracket.{Bracket}
 use Rattle.ctmc_semantics.specs.Fraction.{Fraction, decimal_fraction}
 use Rattle.ctmc_semantics.specs.Horizon.{horizon}
 use Rattle.ctmc_semantics.specs.Next.{next_probability}
 use Rattle.ctmc_semantics.specs.Sets.{holds_at}
 use Rattle.ctmc_semantics.specs.Threshold.{Comparison}
+use Rattle.ctmc_semantics.specs.Value.{ValueMeets}
+use Rattle.ctmc_semantics.specs.WordBracket.{WordBracket}
 use Rattle.ctmc_semantics.proofs.Powers.{power_le}
 use Rattle.ctmc_semantics.proofs.VerdictLemmas.{failing_not_meeting}
 use Rattle.command_words.specs.declared.command.Options.{Options}
-use Rattle.csl_semantics.specs.Meaning.{IsSat, comparison_of, load_of, time_values}
+use Rattle.csl_semantics.specs.Meaning.{IsSat, HoldsExactly, HoldsOverBoth, SequenceMeets, comparison_of, load_of, reach_values, time_values}
 use Rattle.csl_semantics.specs.Truth.{is_propositional, truth_at, truths}
 use Rattle.csl_semantics.proofs.FormulaKinds.{propositional_no_until}
 use Rattle.csl_semantics.proofs.Truths.{truths_stand}
 use Rattle.csl_semantics.proofs.Unique.{one_meaning, over_exact, both_exact}
 use Rattle.csl_syntax.specs.Tree.{Tree, truth, falsehood, label, negation, conjunction, disjunction, next, until}
+use Rattle.csl_syntax.specs.declared.formula.Bound.{Bound}
 use Rattle.csl_syntax.specs.declared.formula.Bound.TheVariants.{Unbounded, Time, Reward}
 use Rattle.csl_syntax.specs.declared.formula.Op.{Op}
 use Rattle.decimal_text.specs.DecimalNumber.{DecimalNumber}
 use Rattle.model_core.specs.Model.{LabelledChain}
-use Rattle.poisson_tail.specs.declared.layers.TheConstants.{MOST_LAYERS}
-use Rattle.session.specs.Answer.{AnswerLists}
-use Rattle.session.specs.ExactAnswer.{IsSo, IsDecided, AreExactAt, ShowsNext, AreWatched, ShowsUntil, IsOutOfReach, ShowsExactly, IsExactAnswer, bracket_of}
-use Rattle.session.specs.ExactState.{IsExactNext, IsExactUntil}
-use Rattle.session.specs.FormulaAnswer.{Answers, Refuses, unless_refused, is_built, truth_verdict, verdicts_answer, shown_answer, watched_answer, next_states, until_states, formula_answer}
+use Rattle.report.specs.Answer.{AnswerLists, truth_verdict}
+use Rattle.report.specs.declared.answer.Printed.{Printed}
+use Rattle.report.specs.declared.answer.Verdict.{Verdict}
+use Rattle.report.specs.declared.answer.Verdict.TheVariants.{Satisfied, Refuted, Undecided}
+use Rattle.session.specs.ExactAnswer.{IsSo, IsDecided, AreExactAt, ShowsNext, AreWatched, ShowsUntil, IsOutOfReach, ContainsTime, ContainsReach, AreNearReach, ShowsBound, ShowsExactly, IsExactAnswer}
+use Rattle.session.specs.ExactState.{AreNarrow, IsExactNext, IsExactUntil}
+use Rattle.session.specs.FormulaAnswer.{Answers, Refuses, unless_refused, is_built, verdicts_answer, shown_answer, next_states, until_states, formula_answer}
 use Rattle.session.specs.NextAnswer.{next_answer}
 use Rattle.session.specs.UntilAnswer.{state_words, words_answer}
-use Rattle.session.specs.declared.report.Printed.{Printed}
-use Rattle.session.specs.declared.report.Verdict.{Verdict}
-use Rattle.session.specs.declared.report.Verdict.TheVariants.{Satisfied, Refuted, Undecided}
+use Rattle.session.specs.UntilPlan.{is_built_bound, bound_refusal, last_jumps}
+use Rattle.session.specs.UnwatchedAnswer.{unwatched_answer}
+use Rattle.session.specs.WatchedBrackets.{AreTaken, AreTakenOf, IsWatched}
 use Rattle.session.specs.declared.state_answer.StateAnswer.{StateAnswer}
 use Rattle.step_core.specs.declared.plan_error.PlanError.{PlanError}
-use Rattle.step_core.specs.declared.plan_error.PlanError.TheVariants.{TooLong, TooLarge}
-use Rattle.uniformise.specs.TimePlan.{plan_refusal, time_refusal}
-use Rattle.uniformise.specs.declared.time_bound.TheConstants.{MOST_WORDS}
 use Rattle.session.proofs.ExactAnswers.{next_answer_exact}
 use Rattle.session.proofs.FormulaAnswers.{plain_answered}
-use Rattle.session.proofs.Verdicts.{until_exact}
+use Rattle.session.proofs.PlanCells.{few}
+use Rattle.session.proofs.Verdicts.{time_exact, reach_exact}
+use Rattle.session.proofs.WatchedLemmas.{answer_with, all_contain, whole_verdicts, filled, filled_are}
+use Rattle.session.proofs.Widening.{Widens, from_widens, limit_widens}
 
 -- ---- what is told apart
 none_not_some : {X : Type 0} (x : X) → None ≡ Some x → ⊥
@@ -74,7 +78,7 @@ module _ {X Y : Type 0} (f : ℕ → X) (part : X → Y) (n : ℕ) where
       ∙ ap Some (part_read s (part (f s)) l)
 
   -- what is found stands at a state
-  part_found : (s : ℕ) (y : Y) → slice_get (map part (map f (range_with_len 0 n))) s ≡ Some y → (s < n) × (y ≡ part (f s))
+  pub part_found : (s : ℕ) (y : Y) → slice_get (map part (map f (range_with_len 0 n))) s ≡ Some y → (s < n) × (y ≡ part (f s))
   part_found s y e =
       elim (dec_le (suc s) n) [
         | yes l ↦ (l, some_same y (part (f s)) (sym e ∙ part_here s l))
@@ -115,29 +119,6 @@ module _ (f : ℕ → StateAnswer) (n : ℕ) where
       → (s : ℕ) → s < n → IsSomeAnd (slice_get (map verdict_part answers) s) (IsSo (holds s))
   so_at holds so s l = subst (λ o. IsSomeAnd o (IsSo (holds s))) (sym (part_here f verdict_part n s l)) (so s l)
 
--- ---- a bracket as often as it is watched
-encloses_itself : (b : Bracket) → Encloses b b
-encloses_itself b = record { below = omega arith; above = omega arith }
-
-module _ (count last : ℕ) (x : ℕ → Fraction) (printed : Printed) (contains : ContainsFrom (bracket_of printed) last x) where
-  watched_at : (i : ℕ) (d : Printed) → i < length (replicate count printed) → get_or (replicate count printed) i d ≡ printed
-  watched_at i d l = get_or-replicate count i printed d (omega (arith, l, length-replicate count printed))
-
-  are_watched : AreWatched count last x printed (replicate count printed)
-  are_watched = record {
-    counted = length-replicate count printed;
-    contain = λ i d l. subst (λ w. ContainsFrom (bracket_of w) last x) (sym (watched_at i d l)) contains;
-    nested = λ i j d l m.
-        subst₂ (λ a b. Encloses (bracket_of a) (bracket_of b)) (sym (watched_at i d (omega (arith, l, m)))) (sym (watched_at j d m))
-        (encloses_itself (bracket_of printed));
-    printed_last = λ earlier w e.
-        let inside : length earlier < length (replicate count printed) =
-        omega (arith, ap length e, length-append {A = Printed} earlier (w ∷ [])) in
-        sym (get_or-append_seam earlier w [] printed)
-        ∙ ap (λ l. get_or l (length earlier) printed) (sym e)
-        ∙ watched_at (length earlier) printed inside;
-  }
-
 -- ---- a formula without a probability operator
 operand_stands : (over : LabelledChain) (f : Tree) → IsTrue (is_propositional f) → IsSat over f (truths over f)
 operand_stands over f plain = truths_stand over f (propositional_no_until f plain)
@@ -152,10 +133,11 @@ truth_decided false e = cc
 
 module _ (over : LabelledChain) (options : Options) where
   plain_exact : (f : Tree) (answer : AnswerLists) → IsTrue (is_propositional f) → (IsDecided answer → ShowsExactly over options f answer)
-      → formula_answer over options f ≡ Answers answer → IsExactAnswer over options f answer
+      → formula_answer over options f ≡ Answers (unwatched_answer answer) → IsExactAnswer over options f answer
   plain_exact f answer plain shows e =
       let n = over.chain.states in
-      let is : verdicts_answer (truths over f) ≡ answer = same_answers _ answer (sym (plain_answered over options f plain) ∙ e) in
+      let computed = same_answers (verdicts_answer (truths over f)) (unwatched_answer answer) (sym (plain_answered over options f plain) ∙ e) in
+      let is : verdicts_answer (truths over f) ≡ answer = sym (whole_verdicts answer (map truth_verdict (truths over f)) (sym computed)) in
       let verdicts : map truth_verdict (truths over f) ≡ answer.verdicts = ap (λ (a : AnswerLists). a.verdicts) is in
       record {
         each_state = sym (ap length verdicts) ∙ parts_counted (truth_at over f) truth_verdict n;
@@ -212,10 +194,20 @@ module _ (over : LabelledChain) (options : Options) (op : Op) (q : DecimalNumber
         exact_at next_at n (λ s. IsExactNext (comparison_of op) (next_probability over.chain goal s) threshold) (λ s l. next_exact_at s);
   }
 
-  next_exact : (answer : AnswerLists) → formula_answer over options (next op q f) ≡ Answers answer
-      → IsExactAnswer over options (next op q f) answer
-  next_exact answer e =
-      subst (IsExactAnswer over options (next op q f)) (same_answers next_due answer e) (record {
+  next_is : (answer : AnswerLists) → formula_answer over options (next op q f) ≡ Answers (unwatched_answer answer)
+      → IsWatched options answer → next_due ≡ answer
+  next_is answer e w =
+      let states = map bracket_part (answers next_at n) in
+      let verdicts = map verdict_part (answers next_at n) in
+      let found = filled answer verdicts None states (sym (same_answers next_due (unwatched_answer answer) e)) in
+      sym (found.is
+      ∙ ap (λ (ws : List Printed). answer_with verdicts (Some (record { horizon = None; watched = ws; states = states })))
+      (filled_are options answer verdicts None states w found))
+
+  next_exact : (answer : AnswerLists) → formula_answer over options (next op q f) ≡ Answers (unwatched_answer answer)
+      → IsWatched options answer → IsExactAnswer over options (next op q f) answer
+  next_exact answer e w =
+      subst (IsExactAnswer over options (next op q f)) (next_is answer e w) (record {
         each_state = parts_counted next_at verdict_part n;
         so = λ xs stands. so_at next_at n (holds_at xs) (next_so xs stands);
         shows = λ ys stands.
@@ -223,25 +215,23 @@ module _ (over : LabelledChain) (options : Options) (op : Op) (q : DecimalNumber
             (one_meaning over f (truths over f) ys (operand_stands over f plain) stands) next_shows;
       })
 
--- ---- an until with a bound on the time
--- a plan that isn't refused has few layers
-few_layers : (last states : ℕ) → plan_refusal last states ≡ None → last ≤ MOST_LAYERS
-few_layers last states e = by_test (nat_lt MOST_LAYERS last) refl e
-  where
-    by_test : (long : Bool) → nat_lt MOST_LAYERS last ≡ long
-        → (if long then Some TooLong else (if nat_lt MOST_WORDS (suc last * states) then Some TooLarge else None)) ≡ None
-        → last ≤ MOST_LAYERS
-    by_test true is e = absurd (none_not_some TooLong (sym e))
-    by_test false is e = omega (arith, ltb-false MOST_LAYERS last is)
-
+-- ---- an until
 unrefused : (refusal : Option PlanError) (due answer : AnswerLists) → unless_refused refusal due ≡ Answers answer
     → (refusal ≡ None) × (due ≡ answer)
 unrefused None due answer e = (refl, same_answers due answer e)
 unrefused (Some refusal) due answer e = absurd (refused_not_answered refusal answer e)
 
-module _ (over : LabelledChain) (options : Options) (op : Op) (q t : DecimalNumber) (f g : Tree) (plain : IsTrue (is_propositional f))
-    (other : IsTrue (is_propositional g)) (few_bits : options.bits ≤ 48) (state : options.state < over.chain.states)
-    (short : horizon (load_of over t) options.bits ≤ MOST_LAYERS) where
+-- by what it is for a bracket to contain the until, and for words to be near it, and by its values
+module _ (over : LabelledChain) (options : Options) (op : Op) (q : DecimalNumber) (bound : Bound) (f g : Tree)
+    (plain : IsTrue (is_propositional f)) (other : IsTrue (is_propositional g)) (state : options.state < over.chain.states)
+    (Contains : ℕ → Bracket → Type 0) (AreNear : ℕ → WordBracket → Type 0) (x : ℕ → ℕ → Fraction) (widens : (s : ℕ) → Widens (Contains s))
+    (exact : (s : ℕ) → s < over.chain.states
+    → IsExactUntil (comparison_of op) (Contains s) (AreNear s) (x s) (IsTrue (holds_at (truths over g) s))
+    (IsOutOfReach over.chain (holds_at (truths over f)) (holds_at (truths over g)) s) (decimal_fraction q.c q.x)
+    (words_answer (comparison_of op) (state_words over options bound (holds_at (truths over f)) (holds_at (truths over g)) s)
+    (decimal_fraction q.c q.x)))
+    (means : (xs : List Bool) → IsSat over (until op q f bound g) xs → (s : ℕ) → s < over.chain.states
+    → IsTrue (holds_at xs s) ↔ ValueMeets (comparison_of op) (x s) (decimal_fraction q.c q.x)) where
   abbrev by : Comparison
   by = comparison_of op
 
@@ -249,87 +239,135 @@ module _ (over : LabelledChain) (options : Options) (op : Op) (q t : DecimalNumb
   limit = decimal_fraction q.c q.x
 
   abbrev last : ℕ
-  last = horizon (load_of over t) options.bits
+  last = last_jumps over options bound
 
-  abbrev value : ℕ → ℕ → Fraction
-  value = time_values over t (holds_at (truths over f)) (holds_at (truths over g))
+  abbrev live : ℕ → Bool
+  live = holds_at (truths over f)
+
+  abbrev aim : ℕ → Bool
+  aim = holds_at (truths over g)
 
   abbrev until_at : ℕ → StateAnswer
-  until_at s =
-      words_answer by (state_words over.chain (load_of over t) options.bits (holds_at (truths over f)) (holds_at (truths over g)) s) limit
+  until_at s = words_answer by (state_words over options bound live aim s) limit
 
-  abbrev sure : ℕ → Type 0
-  sure s = IsTrue (holds_at (truths over g) s)
-
-  abbrev out : ℕ → Type 0
-  out = IsOutOfReach over.chain (holds_at (truths over f)) (holds_at (truths over g))
-
-  until_exact_at : (s : ℕ) → s < over.chain.states → IsExactUntil by last options.bits (value s) (sure s) (out s) limit (until_at s)
-  until_exact_at s l =
-      until_exact over.chain (load_of over t) options.bits (holds_at (truths over f)) (holds_at (truths over g)) s
-      (power_of_ten (over.rate_decimals + t.x)) few_bits l by limit (power_of_ten q.x) short
-
-  until_so : (xs : List Bool) → IsSat over (until op q f (Time t) g) xs → (s : ℕ) → s < over.chain.states
+  until_so : (xs : List Bool) → IsSat over (until op q f bound g) xs → (s : ℕ) → s < over.chain.states
       → IsSo (holds_at xs s) (until_at s).verdict
   until_so xs stands s l =
-      let means =
-      (both_exact over.chain.states _ _ _ (one_meaning over f) (one_meaning over g) xs (truths over f) (truths over g) stands
-      (operand_stands over f plain) (operand_stands over g other)).exact s l in
-      let exact = until_exact_at s l in
-      so_by (holds_at xs s) (until_at s).verdict (λ e. means.1 (exact.meets e))
-      (λ e h. failing_not_meeting by (value s) limit (exact.fails e) (means.0 h))
+      let here = means xs stands s l in
+      let told = exact s l in
+      so_by (holds_at xs s) (until_at s).verdict (λ e. here.1 (told.meets e))
+      (λ e h. failing_not_meeting by (x s) limit (told.fails e) (here.0 h))
 
-  abbrev due : AnswerLists
-  due = watched_answer options last (until_states over options.bits op q t f g)
+  abbrev pub due : List Printed → AnswerLists
+  due watched = shown_answer (Some last) watched (until_states over options op q bound f g)
 
-  abbrev watched_due : List Printed
-  watched_due =
-      replicate options.watch
-      (get_or (map bracket_part (answers until_at over.chain.states)) options.state (record { low = 0; high = 0 }))
+  abbrev printed_here : List Printed
+  printed_here = map bracket_part (answers until_at over.chain.states)
 
-  watched_so : AreWatched options.watch last (value options.state) (until_at options.state).bracket watched_due
-  watched_so =
-      subst (λ w. AreWatched options.watch last (value options.state) (until_at options.state).bracket (replicate options.watch w))
-      (sym (part_read until_at bracket_part over.chain.states options.state (record { low = 0; high = 0 }) state))
-      (are_watched options.watch last (value options.state) (until_at options.state).bracket (until_exact_at options.state state).contains)
+  -- what is shown of it, by lists of which the printed brackets are taken
+  abbrev pub Shows : AnswerLists → Type 0
+  Shows answer =
+      ShowsUntil over.chain.states options by last Contains AreNear x (λ s. IsTrue (aim s)) (IsOutOfReach over.chain live aim) limit answer
 
-  until_shows : ShowsUntil over.chain.states options by last value sure out limit due
-  until_shows = record {
-    watched = watched_due;
-    states = map bracket_part (answers until_at over.chain.states);
-    shown = refl;
-    exact = exact_at until_at over.chain.states (λ s. IsExactUntil by last options.bits (value s) (sure s) (out s) limit) until_exact_at;
-    watches =
-        subst (λ o. IsSomeAnd o (λ printed. AreWatched options.watch last (value options.state) printed watched_due))
-        (sym (part_here until_at bracket_part over.chain.states options.state state)) watched_so;
-  }
+  module _ (watched : List Printed) (are : AreTakenOf options printed_here watched) where
+    taken_so : AreTaken (until_at options.state).bracket watched
+    taken_so = are.taken (until_at options.state).bracket (part_here until_at bracket_part over.chain.states options.state state)
 
-  until_answer_exact : IsExactAnswer over options (until op q f (Time t) g) due
-  until_answer_exact = record {
-    each_state = parts_counted until_at verdict_part over.chain.states;
-    so = λ xs stands. so_at until_at over.chain.states (holds_at xs) (until_so xs stands);
-    shows = λ ys zs stands too.
-        subst₂ (λ ls rs. ShowsUntil over.chain.states options by last (time_values over t (holds_at ls) (holds_at rs))
-        (λ s. IsTrue (holds_at rs s)) (IsOutOfReach over.chain (holds_at ls) (holds_at rs)) limit due)
-        (one_meaning over f (truths over f) ys (operand_stands over f plain) stands)
-        (one_meaning over g (truths over g) zs (operand_stands over g other) too) until_shows;
-  }
+    watched_so : AreWatched options.watch (Contains options.state) (until_at options.state).bracket watched
+    watched_so = record {
+      counted = are.counted;
+      contain =
+          all_contain (until_at options.state).bracket watched taken_so (Contains options.state) (widens options.state)
+          (exact options.state state).contains;
+      taken = taken_so;
+    }
+
+    until_shows : Shows (due watched)
+    until_shows = record {
+      watched = watched;
+      states = printed_here;
+      shown = refl;
+      exact =
+          exact_at until_at over.chain.states
+          (λ s. IsExactUntil by (Contains s) (AreNear s) (x s) (IsTrue (aim s)) (IsOutOfReach over.chain live aim s) limit) exact;
+      watches =
+          subst (λ o. IsSomeAnd o (λ printed. AreWatched options.watch (Contains options.state) printed watched))
+          (sym (part_here until_at bracket_part over.chain.states options.state state)) watched_so;
+    }
+
+    until_answer_exact : (Shows (due watched) → ShowsBound over options bound live aim by limit (due watched))
+        → IsExactAnswer over options (until op q f bound g) (due watched)
+    until_answer_exact so = record {
+      each_state = parts_counted until_at verdict_part over.chain.states;
+      so = λ xs stands. so_at until_at over.chain.states (holds_at xs) (until_so xs stands);
+      shows = λ ys zs stands too.
+          subst₂ (λ (ls rs : List Bool). ShowsBound over options bound (holds_at ls) (holds_at rs) by limit (due watched))
+          (one_meaning over f (truths over f) ys (operand_stands over f plain) stands)
+          (one_meaning over g (truths over g) zs (operand_stands over g other) too) (so until_shows);
+    }
+
+  until_computed : ((shown : AnswerLists) → Shows shown → ShowsBound over options bound live aim by limit shown) → (answer : AnswerLists)
+      → due [] ≡ unwatched_answer answer → IsWatched options answer → IsExactAnswer over options (until op q f bound g) answer
+  until_computed so answer e w =
+      let verdicts = map verdict_part (answers until_at over.chain.states) in
+      let found = filled answer verdicts (Some last) printed_here (sym e) in
+      let watched = filled_are options answer verdicts (Some last) printed_here w found in
+      subst (IsExactAnswer over options (until op q f bound g)) (sym found.is)
+      (until_answer_exact found.watched watched (so (due found.watched)))
+
+module _ (over : LabelledChain) (options : Options) (op : Op) (q : DecimalNumber) (f g : Tree) (plain : IsTrue (is_propositional f))
+    (other : IsTrue (is_propositional g)) (few_bits : options.bits ≤ 48) (state : options.state < over.chain.states) where
+  -- the values are what the formula means
+  abbrev Means : (ℕ → ℕ → Fraction) → List Bool → Type 0
+  Means x xs = (s : ℕ) → s < over.chain.states → IsTrue (holds_at xs s) ↔ ValueMeets (comparison_of op) (x s) (decimal_fraction q.c q.x)
+
+  abbrev first : ℕ → Bool
+  first = holds_at (truths over f)
+
+  abbrev second : ℕ → Bool
+  second = holds_at (truths over g)
+
+  means_by : (P : (ℕ → Bool) → (ℕ → Bool) → ℕ → Type 0) (xs : List Bool)
+      → HoldsOverBoth over.chain.states (IsSat over f) (IsSat over g) P xs → HoldsExactly over.chain.states (P first second) xs
+  means_by P xs stands =
+      both_exact over.chain.states (IsSat over f) (IsSat over g) P (one_meaning over f) (one_meaning over g) xs (truths over f)
+      (truths over g) stands (operand_stands over f plain) (operand_stands over g other)
+
+  -- every bound that is built
+  bound_exact : (bound : Bound) → IsTrue (is_built_bound bound) → (answer : AnswerLists)
+      → formula_answer over options (until op q f bound g) ≡ Answers (unwatched_answer answer) → IsWatched options answer
+      → IsExactAnswer over options (until op q f bound g) answer
+  bound_exact Unbounded built answer e w =
+      let given = unrefused (bound_refusal over options Unbounded) _ (unwatched_answer answer) e in
+      until_computed over options op q Unbounded f g plain other state (ContainsReach over options first second)
+      (AreNearReach over options first second) (reach_values over first second)
+      (λ s. limit_widens options.jumps (reach_values over first second s))
+      (λ s l. reach_exact over.chain first second s l options.jumps (comparison_of op) (decimal_fraction q.c q.x) (power_of_ten q.x))
+      (λ xs stands. (means_by (λ y z s. SequenceMeets op q (reach_values over y z s)) xs stands).exact) (λ shown h. h) answer given.1 w
+  bound_exact (Time t) built answer e w =
+      let given = unrefused (bound_refusal over options (Time t)) _ (unwatched_answer answer) e in
+      let last = horizon (load_of over t) options.bits in
+      let short = (few last over.chain.states given.0).0 in
+      until_computed over options op q (Time t) f g plain other state (ContainsTime over options t first second)
+      (λ s. AreNarrow last options.bits) (time_values over t first second)
+      (λ s. from_widens last (time_values over t first second s))
+      (λ s l. time_exact over.chain first second s l (load_of over t) options.bits (power_of_ten (over.rate_decimals + t.x)) few_bits
+      (comparison_of op) (decimal_fraction q.c q.x) (power_of_ten q.x) short)
+      (λ xs stands. (means_by (λ y z s. SequenceMeets op q (time_values over t y z s)) xs stands).exact) (λ shown h. h) answer given.1 w
+  bound_exact (Reward r) built answer e w = absurd (false≢true built)
 
 -- ---- every formula that is answered
 pub formula_exact : (over : LabelledChain) (options : Options) (f : Tree) (answer : AnswerLists) → IsTrue (is_built f) → options.bits ≤ 48
-    → options.state < over.chain.states → formula_answer over options f ≡ Answers answer → IsExactAnswer over options f answer
-formula_exact over options truth answer built few state e = plain_exact over options truth answer built (λ d. d) e
-formula_exact over options falsehood answer built few state e = plain_exact over options falsehood answer built (λ d. d) e
-formula_exact over options (label j) answer built few state e = plain_exact over options (label j) answer built (λ d. d) e
-formula_exact over options (negation f) answer built few state e = plain_exact over options (negation f) answer built (λ d. d) e
-formula_exact over options (conjunction f g) answer built few state e = plain_exact over options (conjunction f g) answer built (λ d. d) e
-formula_exact over options (disjunction f g) answer built few state e = plain_exact over options (disjunction f g) answer built (λ d. d) e
-formula_exact over options (next op q f) answer built few state e = next_exact over options op q f built answer e
-formula_exact over options (until op q f (Time t) g) answer built few state e =
-    let plain = and_parts (is_propositional f) (is_propositional g) built in
-    let given = unrefused (time_refusal over.chain over.rate_decimals options.bits t) _ answer e in
-    subst (IsExactAnswer over options (until op q f (Time t) g)) given.1
-    (until_answer_exact over options op q t f g plain.0 plain.1 few state
-    (few_layers (horizon (load_of over t) options.bits) over.chain.states given.0))
-formula_exact over options (until op q f Unbounded g) answer built few state e = absurd (false≢true built)
-formula_exact over options (until op q f (Reward r) g) answer built few state e = absurd (false≢true built)
+    → options.state < over.chain.states → formula_answer over options f ≡ Answers (unwatched_answer answer) → IsWatched options answer
+    → IsExactAnswer over options f answer
+formula_exact over options truth answer built few state e w = plain_exact over options truth answer built (λ d. d) e
+formula_exact over options falsehood answer built few state e w = plain_exact over options falsehood answer built (λ d. d) e
+formula_exact over options (label j) answer built few state e w = plain_exact over options (label j) answer built (λ d. d) e
+formula_exact over options (negation f) answer built few state e w = plain_exact over options (negation f) answer built (λ d. d) e
+formula_exact over options (conjunction f g) answer built few state e w = plain_exact over options (conjunction f g) answer built (λ d. d) e
+formula_exact over options (disjunction f g) answer built few state e w = plain_exact over options (disjunction f g) answer built (λ d. d) e
+formula_exact over options (next op q f) answer built few state e w = next_exact over options op q f built answer e w
+formula_exact over options (until op q f bound g) answer built few state e w =
+    let parts = and_parts (is_built_bound bound && is_propositional f) (is_propositional g) built in
+    let first = and_parts (is_built_bound bound) (is_propositional f) parts.0 in
+    bound_exact over options op q f g first.1 parts.1 few state bound first.0 answer e w

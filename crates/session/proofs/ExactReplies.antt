@@ -5,9 +5,9 @@ use Rattle.command_words.specs.Laws.{AreInRange}
 use Rattle.command_words.specs.declared.command.Options.{Options}
 use Rattle.csl_syntax.specs.Tree.{Tree, truth, falsehood, label, negation, conjunction, disjunction, next, until}
 use Rattle.csl_syntax.specs.CanonicalText.{formula_text}
-use Rattle.csl_syntax.specs.declared.formula.Bound.TheVariants.{Unbounded, Time, Reward}
 use Rattle.model_core.specs.Model.{LabelledChain}
-use Rattle.session.specs.Answer.{AnswerLists}
+use Rattle.report.specs.Answer.{AnswerLists}
+use Rattle.session.specs.UnwatchedAnswer.{unwatched_answer}
 use Rattle.session.specs.ExactReply.{HasNoPlan, IsExactReply, IsExactTo}
 use Rattle.session.specs.FormulaAnswer.{FormulaAnswer, Answers, Refuses, unless_refused, formula_answer, is_built}
 use Rattle.session.specs.LineReply.{LineReply, Answered, Faulty, NotBuilt, Refused, NumberedReply, built_reply, IsLineReply, IsReplyTo}
@@ -63,20 +63,20 @@ module _ (over : LabelledChain) (options : Options) where
   no_plan (conjunction f g) r built e = answers_refuse _ r e
   no_plan (disjunction f g) r built e = answers_refuse _ r e
   no_plan (next op q f) r built e = answers_refuse _ r e
-  no_plan (until op q f Unbounded g) r built e = cc
-  no_plan (until op q f (Time t) g) r built e = refused_by _ _ r e
-  no_plan (until op q f (Reward c) g) r built e = cc
+  no_plan (until op q f bound g) r built e = refused_by _ _ r e
 
   module _ (range : AreInRange options) (state : options.state < over.chain.states) (line : List ℕ) where
     pub exact_reply : (reply : LineReply) → IsLineReply over options line reply → IsExactReply over options line reply
     exact_reply (Answered text answer) h =
-        let t = tells_answer over.names h.formula (is_built h.formula) (formula_answer over options h.formula) text answer h.is in
+        let t =
+        tells_answer over.names h.formula (is_built h.formula) (formula_answer over options h.formula) text (unwatched_answer answer)
+        h.is in
         record {
           formula = h.formula;
           says = h.says;
           built = t.is_built;
           is_text = t.is_text;
-          exact = formula_exact over options h.formula answer t.is_built range.bits.most state t.is;
+          exact = formula_exact over options h.formula answer t.is_built range.bits.most state t.is h.watched;
         }
     exact_reply (Faulty fault) h = h
     exact_reply NotBuilt h = record {

@@ -1,12 +1,7 @@
 -- Sets that are known exactly.
-use Rattle.std.proofs.Common.{◌≡◌, ℕ, Bool, List, length, subst}
-use Rattle.ctmc_semantics.specs.Chain.{Chain}
-use Rattle.ctmc_semantics.specs.Fraction.{Fraction}
-use Rattle.session.specs.UntilAnswer.{exact_sets}
-use Rattle.step_core.specs.FrameLists.{SetLists}
-use Rattle.step_core.specs.PlanLists.{PlanLists}
+use Rattle.std.proofs.Common.{◌≡◌, ℕ, Bool, List, length}
+use Rattle.session.specs.UntilPlan.{exact_sets}
 use Rattle.step_core.specs.SoundFrame.{AreSoundSets}
-use Rattle.uniformise.specs.TimePlan.{IsTimePlan}
 
 pub exact_sets_sound : (n : ℕ) (live goal : List Bool) → length live ≡ n → length goal ≡ n → AreSoundSets n (exact_sets live goal)
 exact_sets_sound n live goal counted too = record {
@@ -17,7 +12,3 @@ exact_sets_sound n live goal counted too = record {
   goal = λ s h. h;
   live = λ s h. h;
 }
-
-pub planned : (chain : Chain) (load : Fraction) (bits : ℕ) (live goal : List Bool) (sets : SetLists) (plan : PlanLists)
-    → sets ≡ exact_sets live goal → IsTimePlan chain load bits sets plan → IsTimePlan chain load bits (exact_sets live goal) plan
-planned chain load bits live goal sets plan are is = subst (λ known. IsTimePlan chain load bits known plan) are is

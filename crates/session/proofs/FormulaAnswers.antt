@@ -1,29 +1,26 @@
 -- What is answered is what is computed of the formula, and can be printed.
-use Rattle.std.proofs.Common.{◌≡◌, ℕ, ◌<◌, Bool, IsTrue, List, [], All, length, map, replicate, get_or, Option, Some, None, refl, sym, ap, subst, ◌∙◌, arith}
+use Rattle.std.proofs.Common.{◌≡◌, ℕ, ◌<◌, Bool, IsTrue, List, [], All, length, map, Option, Some, None, refl, sym, ap, subst, ◌∙◌, arith}
 use Rattle.std.proofs.lemmas.Bool.{false≢true}
-use Rattle.std.proofs.lemmas.List.{get_or-map, get_or-replicate, length-map, length-replicate}
-use Rattle.std.proofs.lemmas.List.FromFn.{length-map-range_with_len}
-use Rattle.ctmc_semantics.specs.Chain.{Chain}
-use Rattle.ctmc_semantics.specs.Fraction.{Fraction, decimal_fraction}
-use Rattle.ctmc_semantics.specs.Horizon.{horizon}
+use Rattle.std.proofs.lemmas.List.{get_or-map, length-map}
+use Rattle.ctmc_semantics.specs.Fraction.{decimal_fraction}
 use Rattle.ctmc_semantics.specs.Sets.{holds_at}
-use Rattle.ctmc_semantics.specs.Threshold.{Comparison}
 use Rattle.command_words.specs.declared.command.Options.{Options}
-use Rattle.csl_semantics.specs.Meaning.{comparison_of, load_of}
+use Rattle.csl_semantics.specs.Meaning.{comparison_of}
 use Rattle.csl_semantics.specs.Truth.{is_propositional, truths}
 use Rattle.csl_syntax.specs.Tree.{Tree, truth, falsehood, label, negation, conjunction, disjunction, next, until}
-use Rattle.csl_syntax.specs.declared.formula.Bound.TheVariants.{Time}
+use Rattle.csl_syntax.specs.declared.formula.Bound.{Bound}
 use Rattle.csl_syntax.specs.declared.formula.Op.{Op}
 use Rattle.decimal_text.specs.DecimalNumber.{DecimalNumber}
 use Rattle.model_core.specs.Model.{LabelledChain}
-use Rattle.session.specs.Answer.{AnswerLists, ShownLists}
-use Rattle.session.specs.FormulaAnswer.{Answers, unless_refused, formula_answer, verdicts_answer, shown_answer, watched_answer, next_states, until_states}
+use Rattle.report.specs.Answer.{AnswerLists, ShownLists}
+use Rattle.session.specs.FormulaAnswer.{Answers, Refuses, unless_refused, formula_answer, verdicts_answer, shown_answer, next_states, until_states}
 use Rattle.session.specs.NextAnswer.{next_answers}
-use Rattle.session.specs.Report.{IsPrintable, ArePrintable, IsWritable}
-use Rattle.session.specs.UntilAnswer.{state_words, words_answer, until_answers}
-use Rattle.uniformise.specs.TimePlan.{time_refusal}
-use Rattle.session.specs.declared.report.Printed.{Printed}
-use Rattle.session.specs.declared.report.Verdict.TheVariants.{Undecided}
+use Rattle.report.specs.AnswerText.{IsPrintable, ArePrintable, IsWritable}
+use Rattle.session.specs.UntilAnswer.{until_answers}
+use Rattle.session.specs.UntilPlan.{bound_refusal, last_jumps}
+use Rattle.step_core.specs.declared.plan_error.PlanError.{PlanError}
+use Rattle.report.specs.declared.answer.Printed.{Printed}
+use Rattle.report.specs.declared.answer.Verdict.TheVariants.{Undecided}
 use Rattle.session.specs.declared.state_answer.StateAnswer.{StateAnswer}
 
 module _ (over : LabelledChain) (options : Options) where
@@ -49,36 +46,34 @@ module _ (over : LabelledChain) (options : Options) where
     next_answered answer is = sym (ap Answers (is ∙ ap (shown_answer None []) next_states_are))
 
   -- ---- an until, from the lists of its operands
-  module _ (op : Op) (q t : DecimalNumber) (f g : Tree) (live goal : List Bool) (last : ℕ)
-      (is_live : live ≡ truths over f) (is_goal : goal ≡ truths over g) (is_last : last ≡ horizon (load_of over t) options.bits)
-      (unrefused : time_refusal over.chain over.rate_decimals options.bits t ≡ None)
+  module _ (op : Op) (q : DecimalNumber) (bound : Bound) (f g : Tree) (live goal : List Bool) (last : ℕ)
+      (is_live : live ≡ truths over f) (is_goal : goal ≡ truths over g) (is_last : last ≡ last_jumps over options bound)
+      (unrefused : bound_refusal over options bound ≡ None)
       (states : List StateAnswer)
-      (are :
-      states
-      ≡ until_answers over.chain (load_of over t) options.bits (holds_at live) (holds_at goal) (comparison_of op)
-      (decimal_fraction q.c q.x))
+      (are : states
+      ≡ until_answers over options bound (holds_at live) (holds_at goal) (comparison_of op) (decimal_fraction q.c q.x))
     where
       abbrev answered : List Bool → List Bool → List StateAnswer
-      answered xs ys =
-          until_answers over.chain (load_of over t) options.bits (holds_at xs) (holds_at ys) (comparison_of op) (decimal_fraction q.c q.x)
+      answered xs ys = until_answers over options bound (holds_at xs) (holds_at ys) (comparison_of op) (decimal_fraction q.c q.x)
 
-      until_states_are : states ≡ until_states over options.bits op q t f g
+      until_states_are : states ≡ until_states over options op q bound f g
       until_states_are =
           are ∙ ap (λ (xs : List Bool). answered xs goal) is_live ∙ ap (answered (truths over f)) is_goal
 
-      pub until_answered : (answer : AnswerLists) → answer ≡ watched_answer options last states
-          → formula_answer over options (until op q f (Time t) g) ≡ Answers answer
+      pub until_answered : (answer : AnswerLists) → answer ≡ shown_answer (Some last) [] states
+          → formula_answer over options (until op q f bound g) ≡ Answers answer
       until_answered answer is =
-          let due = watched_answer options (horizon (load_of over t) options.bits) (until_states over options.bits op q t f g) in
+          let due = shown_answer (Some (last_jumps over options bound)) [] (until_states over options op q bound f g) in
           ap (λ r. unless_refused r due) unrefused
           ∙ sym (ap Answers (is
-          ∙ ap (λ (n : ℕ). watched_answer options n states) is_last
-          ∙ ap (watched_answer options (horizon (load_of over t) options.bits)) until_states_are))
+          ∙ ap (λ (n : ℕ). shown_answer (Some n) [] states) is_last
+          ∙ ap (shown_answer (Some (last_jumps over options bound)) []) until_states_are))
 
-pub until_counted : (chain : Chain) (load : Fraction) (bits : ℕ) (live goal : ℕ → Bool) (by : Comparison) (q : Fraction)
-    (states : List StateAnswer) → states ≡ until_answers chain load bits live goal by q → length states ≡ chain.states
-until_counted chain load bits live goal by q states are =
-    ap length are ∙ length-map-range_with_len (λ s. words_answer by (state_words chain load bits live goal s) q) 0 chain.states
+  -- and where it is refused
+  pub until_refused : (op : Op) (q : DecimalNumber) (bound : Bound) (f g : Tree) (refusal : PlanError)
+      → bound_refusal over options bound ≡ Some refusal → formula_answer over options (until op q f bound g) ≡ Refuses refusal
+  until_refused op q bound f g refusal is =
+      ap (λ r. unless_refused r (shown_answer (Some (last_jumps over options bound)) [] (until_states over options op q bound f g))) is
 
 -- ---- answers can be printed
 some_is_none : (shown : ShownLists) → None ≡ Some shown → ⊥
@@ -106,14 +101,3 @@ module _ (states : List StateAnswer) (printable : All (λ (a : StateAnswer). IsP
         states = brackets_printable;
         each_state = length-map states (λ (a : StateAnswer). a.bracket) ∙ sym (length-map states (λ (a : StateAnswer). a.verdict));
       }))
-
-  pub watched_writable : (options : Options) (last : ℕ) (answer : AnswerLists) → options.state < length states
-      → answer ≡ watched_answer options last states → IsWritable answer
-  watched_writable options last answer inside is =
-      let bracket : Printed = get_or (map (λ (a : StateAnswer). a.bracket) states) options.state (record { low = 0; high = 0 }) in
-      shown_writable (Some last) (replicate options.watch bracket) answer
-      (λ i d l. subst IsPrintable
-      (sym (get_or-replicate options.watch i bracket d (omega (arith, l, length-replicate options.watch bracket))))
-      (brackets_printable options.state (record { low = 0; high = 0 })
-      (omega (arith, inside, length-map states (λ (a : StateAnswer). a.bracket)))))
-      is

@@ -1,4 +1,4 @@
--- Each line of the formulas has one reply, and each list of lines one list of replies.
+-- Each line of the formulas has a reply, and each list of lines a list of replies; they are one but for the brackets of the watched state.
 use Rattle.std.proofs.Common.{◌≡◌, ℕ, ◌⊎◌, inl, inr, Bool, true, false, if◌then◌else◌, List, [], ◌∷◌, refl, sym, ap, ◌∙◌}
 use Rattle.std.specs.List.{AllZip}
 use Rattle.command_words.specs.declared.command.Options.{Options}
@@ -12,8 +12,9 @@ use Rattle.csl_syntax.proofs.Scanning.{formula_is_one, fault_is_one, formula_has
 use Rattle.model_core.specs.Model.{LabelledChain}
 use Rattle.session.specs.FormulaAnswer.{FormulaAnswer, Answers, Refuses, formula_answer, is_built}
 use Rattle.session.specs.FormulaLines.{formula_lines}
-use Rattle.session.specs.LineReply.{LineReply, Answered, Faulty, NotBuilt, Refused, NumberedReply, built_reply, formula_reply, RepliesTo}
+use Rattle.session.specs.LineReply.{LineReply, Answered, Faulty, NotBuilt, Refused, NumberedReply, built_reply, formula_reply, unwatched_reply, unwatched_replies, RepliesTo}
 use Rattle.session.specs.LineReply.{IsLineReply, IsReplyTo, AreReplies}
+use Rattle.session.proofs.Unwatched.{computed_unwatched, filled_reply, filled_unwatched, filled_watched, reply_whole}
 use Rattle.text_lines.specs.Lines.{LineText}
 
 -- ---- one line
@@ -41,16 +42,19 @@ module _ (over : LabelledChain) (options : Options) (line : List ℕ) where
       let same = fault_is_one line over.names a.column b.column a.what b.what p q in
       ap (λ column. fault_of column a.what) same.0 ∙ ap (fault_of b.column) same.1
 
-  -- a line has one reply at most
-  pub one_reply : (a b : LineReply) → IsLineReply over options line a → IsLineReply over options line b → a ≡ b
+  -- a line has one reply at most, but for the brackets of the watched state
+  pub one_reply : (a b : LineReply) → IsLineReply over options line a → IsLineReply over options line b
+      → unwatched_reply a ≡ unwatched_reply b
   one_reply a b p q = by_kind (formula_or_told a p) (formula_or_told b q)
     where
-      by_kind : RepliesTo over options line a ⊎ TellsFault a → RepliesTo over options line b ⊎ TellsFault b → a ≡ b
+      by_kind : RepliesTo over options line a ⊎ TellsFault a → RepliesTo over options line b ⊎ TellsFault b
+          → unwatched_reply a ≡ unwatched_reply b
       by_kind (inl p) (inl q) =
           p.is ∙ ap (formula_reply over options) (formula_is_one line over.names p.formula q.formula p.says q.says) ∙ sym q.is
       by_kind (inl p) (inr q) = absurd (formula_has_no_fault line over.names p.formula q.fault.column q.fault.what p.says q.has)
       by_kind (inr p) (inl q) = absurd (formula_has_no_fault line over.names q.formula p.fault.column p.fault.what q.says p.has)
-      by_kind (inr p) (inr q) = p.is ∙ ap Faulty (same_fault p.fault q.fault p.has q.has) ∙ sym q.is
+      by_kind (inr p) (inr q) =
+          ap unwatched_reply (p.is ∙ ap Faulty (same_fault p.fault q.fault p.has q.has) ∙ sym q.is)
 
   -- the reply to a formula tells no fault
   tells_none : (f : Tree) (fault : FormulaFault) (built : Bool) (answer : FormulaAnswer)
@@ -73,33 +77,45 @@ module _ (over : LabelledChain) (options : Options) (line : List ℕ) where
       by_kind : SaysSomeFormula line over.names ⊎ HasSomeFormulaFault line over.names
           → (reply : LineReply) × IsLineReply over options line reply
       by_kind (inl (f, says)) =
-          (formula_reply over options f, is_line_reply (formula_reply over options f) (record { formula = f; says = says; is = refl }))
+          let reply = formula_reply over options f in (
+            filled_reply options reply,
+            is_line_reply (filled_reply options reply) (record {
+              formula = f;
+              says = says;
+              is = filled_unwatched options reply ∙ computed_unwatched over options f;
+              watched = filled_watched options reply;
+            }),
+          )
       by_kind (inr (column, what, has)) = (Faulty (record { column = column; what = what }), has)
 
 -- ---- the lines of an input
 module _ (over : LabelledChain) (options : Options) where
-  numbered : ℕ → LineReply → NumberedReply
+  abbrev numbered : ℕ → LineReply → NumberedReply
   numbered number reply = record { number = number; reply = reply }
 
-  pub one_numbered : (line : LineText) (a b : NumberedReply) → IsReplyTo over options line a → IsReplyTo over options line b → a ≡ b
-  unfolding numbered
+  abbrev unwatched : NumberedReply → NumberedReply
+  unwatched r = numbered r.number (unwatched_reply r.reply)
+
+  one_numbered : (line : LineText) (a b : NumberedReply) → IsReplyTo over options line a → IsReplyTo over options line b
+      → unwatched a ≡ unwatched b
   one_numbered line a b p q =
-      ap (λ number. numbered number a.reply) (p.number ∙ sym q.number)
+      ap (λ number. numbered number (unwatched_reply a.reply)) (p.number ∙ sym q.number)
       ∙ ap (numbered b.number) (one_reply over options line.bytes a.reply b.reply p.reply q.reply)
 
   pub one_list_of : (lines : List LineText) (xs ys : List NumberedReply) → AllZip (IsReplyTo over options) lines xs
-      → AllZip (IsReplyTo over options) lines ys → xs ≡ ys
+      → AllZip (IsReplyTo over options) lines ys → unwatched_replies xs ≡ unwatched_replies ys
   one_list_of [] [] [] p q = refl
   one_list_of [] [] (y ∷ ys) p q = absurd q
   one_list_of [] (x ∷ xs) ys p q = absurd p
   one_list_of (line ∷ lines) [] ys p q = absurd p
   one_list_of (line ∷ lines) (x ∷ xs) [] p q = absurd q
   one_list_of (line ∷ lines) (x ∷ xs) (y ∷ ys) p q =
-      ap (λ first. first ∷ xs) (one_numbered line x y p.0 q.0) ∙ ap (λ others. y ∷ others) (one_list_of lines xs ys p.1 q.1)
+      ap (λ first. first ∷ unwatched_replies xs) (one_numbered line x y p.0 q.0)
+      ∙ ap (λ others. unwatched y ∷ others) (one_list_of lines xs ys p.1 q.1)
 
-  -- an input has one list of replies at most
+  -- an input has one list of replies at most, but for the brackets of the watched state
   pub one_list : (input : List ℕ) (xs ys : List NumberedReply) → AreReplies over options input xs → AreReplies over options input ys
-      → xs ≡ ys
+      → unwatched_replies xs ≡ unwatched_replies ys
   one_list input xs ys p q = one_list_of (formula_lines input) xs ys p q
 
   -- each list of lines has replies
@@ -113,3 +129,20 @@ module _ (over : LabelledChain) (options : Options) where
   -- each input has replies
   pub some_replies : (input : List ℕ) → (replies : List NumberedReply) × AreReplies over options input replies
   some_replies input = some_list (formula_lines input)
+
+  -- where no bracket is asked for, replies are whole
+  module _ (none : options.watch ≡ 0) where
+    whole_reply : (line : List ℕ) (reply : LineReply) → IsLineReply over options line reply → unwatched_reply reply ≡ reply
+    whole_reply line (Answered text answer) h = reply_whole options none (Answered text answer) h.watched
+    whole_reply line (Faulty fault) h = refl
+    whole_reply line NotBuilt h = refl
+    whole_reply line (Refused refusal) h = refl
+
+    pub whole_replies : (lines : List LineText) (xs : List NumberedReply) → AllZip (IsReplyTo over options) lines xs
+        → unwatched_replies xs ≡ xs
+    whole_replies [] [] h = refl
+    whole_replies [] (x ∷ xs) h = absurd h
+    whole_replies (line ∷ lines) [] h = absurd h
+    whole_replies (line ∷ lines) (x ∷ xs) h =
+        ap (λ reply. numbered x.number reply ∷ unwatched_replies xs) (whole_reply line.bytes x.reply h.0.reply)
+        ∙ ap (λ others. x ∷ others) (whole_replies lines xs h.1)

@@ -13,9 +13,9 @@ use Rattle.tra_reader.specs.TraFault.{TraFaultAt}
 use Rattle.tra_reader.specs.TraText.{TraSays}
 use Rattle.session.specs.ModelFiles.{TakesTra, TakesLab, TakesRew, TakesModel, LacksWatchedState, IsTraFaulty, IsLabFaulty, IsRewFaulty}
 use Rattle.session.specs.ModelFiles.{IsLabFaultyAfter, IsRewFaultyAfter, IsFaultyAt, IsFileFaulty, model_of}
-use Rattle.session.specs.declared.status.ModelFault.{ModelFault}
-use Rattle.session.specs.declared.status.Which.{Which}
-use Rattle.session.specs.declared.status.Which.TheVariants.{TraFile, LabFile, RewFile}
+use Rattle.report.specs.declared.model_fault.ModelFault.{ModelFault}
+use Rattle.report.specs.declared.model_fault.Which.{Which}
+use Rattle.report.specs.declared.model_fault.Which.TheVariants.{TraFile, LabFile, RewFile}
 use Rattle.lab_reader.proofs.Readings.{lab_reading}
 use Rattle.rew_reader.proofs.Readings.{rew_reading}
 use Rattle.tra_reader.proofs.Readings.{tra_reading}

@@ -14,9 +14,9 @@ use Rattle.session.specs.Reading.{IsTraReading, IsLabReading, IsRewReading, Asks
 use Rattle.session.specs.Serve.{AsksFor}
 use Rattle.session.specs.declared.model_files.ModelReading.{ModelReading}
 use Rattle.session.specs.declared.reading.Stop.{Stop}
-use Rattle.session.specs.declared.status.ModelFault.{ModelFault}
-use Rattle.session.specs.declared.status.Which.{Which}
-use Rattle.session.specs.declared.status.Which.TheVariants.{TraFile, LabFile, RewFile}
+use Rattle.report.specs.declared.model_fault.ModelFault.{ModelFault}
+use Rattle.report.specs.declared.model_fault.Which.{Which}
+use Rattle.report.specs.declared.model_fault.Which.TheVariants.{TraFile, LabFile, RewFile}
 
 -- ---- the files one after another
 pub takes_tra : (state : ℕ) (files : Option (List Pair)) (name spoken : List ℕ) (tra : TraLists) (read : Result TraLists FileFault)

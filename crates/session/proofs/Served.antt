@@ -1,5 +1,5 @@
 -- What the top call promises, from what it read and wrote.
-use Rattle.std.proofs.Common.{◌≡◌, ℕ, ◌⊎◌, inl, inr, List, ◌++◌, Option, Some, None, IfSome, IsSomeAnd, Ok, refl, sym, ap, ◌∙◌, subst, append-nil, Bool, true, false, if◌then◌else◌}
+use Rattle.std.proofs.Common.{◌≡◌, ℕ, ◌⊎◌, inl, inr, List, ◌++◌, Option, Some, None, IfSome, IsSomeAnd, Ok, refl, sym, ap, ◌∙◌, subst, append-nil, Bool, true, false, ◌&&◌, [], ◌∷◌, if◌then◌else◌}
 use Rattle.std.specs.Io.KnownBytes.{Appends, Keeps}
 use Rattle.std.proofs.KnownBytes.{Appends-kept}
 use Rattle.std.specs.List.Sorted.{IsPermutation}
@@ -14,20 +14,20 @@ use Rattle.outside.specs.Shelf.{Pair}
 use Rattle.outside.specs.Whole.{WritesFront}
 use Rattle.session.specs.Command.{IsCommandOf, Say, names_of}
 use Rattle.session.specs.ExactReply.{RepliesExactly, RefusesLongInput}
-use Rattle.session.specs.LineReply.{NumberedReply, AreReplies, all_answered}
+use Rattle.session.specs.LineReply.{LineReply, Answered, Faulty as NotAFormula, NotBuilt, Refused as NoPlan, NumberedReply, AreReplies, all_answered, is_answer, unwatched_reply, unwatched_replies}
 use Rattle.session.specs.FormulaLines.{formula_lines}
 use Rattle.command_words.specs.Words.{AreCommand}
 use Rattle.session.specs.ModelFiles.{IsFileFaulty, model_of}
 use Rattle.session.specs.ReadCause.{HasReadCause}
-use Rattle.session.specs.declared.status.ModelFault.{ModelFault}
-use Rattle.session.specs.Outcome.{Outcome, Usage, Faulty, FormulasLong, Replies, HasReplies, IsOutcome, IsOutcomeOf, outcome_text, outcome_status}
+use Rattle.report.specs.declared.model_fault.ModelFault.{ModelFault}
+use Rattle.session.specs.Outcome.{Outcome, Usage, Faulty, FormulasLong, Replies, HasReplies, IsOutcome, IsOutcomeOf, outcome_text, outcome_status, unwatched_outcome}
 use Rattle.session.specs.Reading.{IsModelOf, IsInputOf, IsPrepared, IsSaidOf, Writes, WritesFrontOf, WritesReplies, WritesFrontOfReplies, AsksBefore}
-use Rattle.session.specs.Serve.{AnswersExactly, AsksFor, AsksBy, IsAnswering, IsCutShort, IsLostOr, IsUsageOrLost, names_through}
+use Rattle.session.specs.Serve.{AnswersExactly, AsksFor, AsksBy, IsAnswering, IsCutShort, IsLostOr, IsUsageOrLost, SaysAlike, names_through}
 use Rattle.session.specs.declared.reading.Input.{Input}
 use Rattle.session.specs.declared.reading.Prepared.{Prepared}
 use Rattle.session.specs.declared.reading.Prepared.TheVariants.{Usage as NoCommand, Faulty as FaultyFile, FormulasLong as LongInput, Lines}
-use Rattle.session.specs.declared.status.Which.{Which}
-use Rattle.session.specs.declared.status.Which.TheVariants as which
+use Rattle.report.specs.declared.model_fault.Which.{Which}
+use Rattle.report.specs.declared.model_fault.Which.TheVariants as which
 use Rattle.session.specs.declared.status.Status.{Status}
 use Rattle.session.specs.declared.status.Status.TheVariants as status
 use Rattle.session.proofs.ExactReplies.{exact_replies}
@@ -178,19 +178,41 @@ appended : (written text : List ℕ) (now : Option (List ℕ)) → Appends (Some
 appended written text None p = absurd p
 appended written text (Some xs) p = ap Some p
 
+-- the status says nothing of the brackets of a watched state
+same_answer : (reply : LineReply) → is_answer (unwatched_reply reply) ≡ is_answer reply
+same_answer (Answered text answer) = refl
+same_answer (NotAFormula fault) = refl
+same_answer NotBuilt = refl
+same_answer (NoPlan refusal) = refl
+
+same_answered : (replies : List NumberedReply) → all_answered (unwatched_replies replies) ≡ all_answered replies
+same_answered [] = refl
+same_answered (r ∷ rs) =
+    ap (λ a. a && all_answered (unwatched_replies rs)) (same_answer r.reply) ∙ ap (λ a. is_answer r.reply && a) (same_answered rs)
+
+same_status : (outcome : Outcome) → outcome_status (unwatched_outcome outcome) ≡ outcome_status outcome
+same_status Usage = refl
+same_status (Faulty fault) = refl
+same_status FormulasLong = refl
+same_status (Replies replies) = ap (λ a. if a then status.Done else status.Refused) (same_answered replies)
+
 pub told : (words : List (List ℕ)) (files : Option (List Pair)) (left_before left_now before now : Option (List ℕ))
     (s : Status) (mine outcome : Outcome) (pairs : List Pair) (left written : List ℕ) (other : Option (List ℕ))
     → s ≡ outcome_status mine → IsOutcome words files left_before left_now mine → Appends before now (outcome_text mine)
     → files ≡ Some pairs → left_before ≡ Some left → before ≡ Some written → IsOutcome words (Some pairs) (Some left) other outcome
-    → IsLostOr s ((s ≡ outcome_status outcome) × (now ≡ Some (written ++ outcome_text outcome)))
+    → IsLostOr s ((s ≡ outcome_status outcome) × SaysAlike words (Some pairs) (Some left) left_now written now outcome)
 told words files left_before left_now before now s mine outcome pairs left written other is h says e f w theirs =
     let h1 : IsOutcome words (Some pairs) left_before left_now mine = subst (λ o. IsOutcome words o left_before left_now mine) e h in
     let h2 : IsOutcome words (Some pairs) (Some left) left_now mine = subst (λ o. IsOutcome words (Some pairs) o left_now mine) f h1 in
-    let same : mine ≡ outcome = same_outcome words pairs left left_now other mine outcome h2 theirs in
+    let alike = same_outcome words pairs left left_now other mine outcome h2 theirs in
     lost_or s _ (
-      (is ∙ ap outcome_status same),
-      appended written (outcome_text outcome) now
-          (subst (λ o. Appends o now (outcome_text outcome)) w (subst (λ o. Appends before now (outcome_text o)) same says)),
+      (is ∙ sym (same_status mine) ∙ ap outcome_status alike ∙ same_status outcome),
+      record {
+        said = mine;
+        is_outcome = h2;
+        alike = alike;
+        text = appended written (outcome_text mine) now (subst (λ o. Appends o now (outcome_text mine)) w says);
+      },
     )
 
 -- ---- the names that were asked for

@@ -17,8 +17,8 @@ use Rattle.session.specs.ModelFiles.{TakesTra, TakesLab, TakesRew, TakesModel, I
 use Rattle.session.specs.Outcome.{Outcome, Usage, Faulty, FormulasLong, Replies, IsOutcomeOf}
 use Rattle.session.specs.Serve.{AreThere}
 use Rattle.session.specs.declared.reading.TheConstants.{FORMULAS_LIMIT}
-use Rattle.session.specs.declared.status.ModelFault.{ModelFault}
-use Rattle.session.specs.declared.status.Which.TheVariants as which
+use Rattle.report.specs.declared.model_fault.ModelFault.{ModelFault}
+use Rattle.report.specs.declared.model_fault.Which.TheVariants as which
 use Rattle.text_lines.specs.declared.fault.FileWhat.TheVariants.{WatchState}
 use Rattle.lab_reader.proofs.Readings.{lab_reading}
 use Rattle.rew_reader.proofs.Readings.{rew_reading}

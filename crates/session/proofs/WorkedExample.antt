@@ -1,5 +1,5 @@
 -- The worked example's input has the outcome that is worked out.
-use Rattle.std.proofs.Common.{◌≡◌, ℕ, zero, suc, ◌+◌, ◌^◌, ◌==◌, ◌<◌, Bool, true, false, if◌then◌else◌, List, [], ◌∷◌, length, slice_index_or, Some, None, IsTrue, ◌↔◌, refl, ap, ◌∙◌, arith, subst, sym, All, Contains}
+use Rattle.std.proofs.Common.{◌≡◌, ℕ, zero, suc, ◌+◌, ◌^◌, ◌==◌, ◌<◌, Bool, true, false, if◌then◌else◌, List, [], ◌∷◌, length, slice_index_or, Option, Some, None, IsTrue, ◌↔◌, refl, ap, ◌∙◌, arith, subst, sym, All, Contains}
 use Rattle.std.proofs.lemmas.Bool.{false≢true}
 use Rattle.std.specs.Prelude.{codes}
 use Rattle.std.specs.Fmt.{digits}
@@ -44,11 +44,14 @@ use Rattle.csl_syntax.proofs.LongestTokens.{word_before}
 use Rattle.csl_syntax.proofs.Runs.{nothing_first}
 use Rattle.session.specs.FormulaLines.{formula_lines}
 use Rattle.session.specs.Laws.{AreNamed}
+use Rattle.session.specs.Laws.{WatchNothing}
 use Rattle.session.specs.LineReply.{LineReply, Faulty, NumberedReply, IsLineReply, IsReplyTo, AreReplies, formula_reply}
 use Rattle.session.specs.Outcome.{Outcome, Replies, IsOutcome, outcome_text, outcome_status}
 use Rattle.session.specs.Serve.{AreThere}
 use Rattle.session.specs.WorkedExample.{example_words, example_tra, example_lab, example_files, example_formulas, example_answer}
 use Rattle.session.specs.declared.status.Status.TheVariants.{Refused}
+use Rattle.session.proofs.Outcomes.{one_unwatched}
+use Rattle.session.proofs.Unwatched.{computed_unwatched, filled_reply, filled_unwatched, filled_watched}
 use Rattle.session.proofs.LineReplies.{is_line_reply}
 
 -- ---- the chain
@@ -269,10 +272,17 @@ says_next : FormulaSays first_line lab.names next_a
 says_next = record { short = omega arith; tokens = spelling next_a []; has = has_next; spells = spells_next }
 
 abbrev first_reply : LineReply
-first_reply = formula_reply over default_options next_a
+first_reply = filled_reply default_options (formula_reply over default_options next_a)
 
 is_first_reply : IsLineReply over default_options first_line first_reply
-is_first_reply = is_line_reply over default_options first_line first_reply (record { formula = next_a; says = says_next; is = refl })
+is_first_reply = is_line_reply over default_options first_line first_reply (record {
+  formula = next_a;
+  says = says_next;
+  is =
+      filled_unwatched default_options (formula_reply over default_options next_a)
+      ∙ computed_unwatched over default_options next_a;
+  watched = filled_watched default_options (formula_reply over default_options next_a);
+})
 
 -- ---- the line that is refused
 is_unknown : FormulaFaultAt (codes "b") lab.names 1 UnknownLabel
@@ -339,3 +349,11 @@ status_is = refl
 pub text_is : outcome_text outcome ≡ example_answer
 unfolding digits
 text_is = refl
+
+-- no state is watched, and so there is no other outcome
+watch_nothing : WatchNothing example_words
+watch_nothing = record { command = Some command; said = says_command; holds = refl }
+
+pub no_other : (now : Option (List ℕ)) (said : Outcome) → IsOutcome example_words (Some example_files) (Some example_formulas) now said
+    → said ≡ outcome
+no_other now said h = one_unwatched example_words example_files example_formulas now (Some []) said outcome watch_nothing h is_outcome

@@ -6,10 +6,10 @@ use Rattle.ctmc_semantics.specs.Fraction.{Fraction}
 use Rattle.ctmc_semantics.specs.Threshold.{Comparison, opposite}
 use Rattle.ctmc_semantics.specs.Units.{units_down, units_up}
 use Rattle.ctmc_semantics.specs.Verdict.{last_to_meet}
-use Rattle.session.specs.declared.report.Printed.{Printed}
+use Rattle.report.specs.declared.answer.Printed.{Printed}
 use Rattle.session.specs.declared.state_answer.StateAnswer.{StateAnswer}
-use Rattle.session.specs.declared.report.Verdict.{Verdict}
-use Rattle.session.specs.declared.report.Verdict.TheVariants.{Satisfied, Refuted, Undecided}
+use Rattle.report.specs.declared.answer.Verdict.{Verdict}
+use Rattle.report.specs.declared.answer.Verdict.TheVariants.{Satisfied, Refuted, Undecided}
 
 -- whether each number in the bracket meets the threshold
 abbrev pub bracket_satisfies : Comparison → Bracket → Fraction → Bool

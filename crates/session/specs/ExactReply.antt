@@ -8,28 +8,25 @@ use Rattle.csl_syntax.specs.CanonicalText.{formula_text}
 use Rattle.csl_syntax.specs.FormulaFault.{FormulaFaultAt}
 use Rattle.csl_syntax.specs.FormulaText.{FormulaSays}
 use Rattle.csl_syntax.specs.Tree.{Tree, until}
-use Rattle.csl_syntax.specs.declared.formula.Bound.TheVariants.{Unbounded, Time, Reward}
 use Rattle.model_core.specs.Model.{LabelledChain}
 use Rattle.outside.specs.Shelf.{Pair}
-use Rattle.session.specs.Answer.{AnswerLists}
+use Rattle.report.specs.Answer.{AnswerLists}
+use Rattle.report.specs.RefusalText.{refusal_line}
 use Rattle.session.specs.ExactAnswer.{IsExactAnswer}
 use Rattle.session.specs.FormulaAnswer.{is_built}
 use Rattle.session.specs.FormulaLines.{formula_lines}
 use Rattle.session.specs.LineReply.{LineReply, Answered, Faulty, NotBuilt, Refused, NumberedReply, all_answered, replies_text}
 use Rattle.session.specs.ModelFiles.{TakesModel, model_of}
+use Rattle.session.specs.UntilPlan.{bound_refusal}
 use Rattle.session.specs.Outcome.{TakesInput, HasLongInput, long_text}
 use Rattle.session.specs.declared.status.Status.{Status}
 use Rattle.session.specs.declared.status.Status.TheVariants.{Done, Refused as RefusedStatus}
 use Rattle.step_core.specs.declared.plan_error.PlanError.{PlanError}
 use Rattle.text_lines.specs.Lines.{LineText}
-use Rattle.uniformise.specs.TimePlan.{time_refusal}
 
 -- the formula has no plan, for this reason
 abbrev pub HasNoPlan : LabelledChain → Options → Tree → PlanError → Type 0
-HasNoPlan over options (until op q f (Time t) g) refusal =
-    time_refusal over.chain over.rate_decimals options.bits t ≡ Some refusal
-HasNoPlan over options (until op q f Unbounded g) refusal = ⊥
-HasNoPlan over options (until op q f (Reward r) g) refusal = ⊥
+HasNoPlan over options (until op q f bound g) refusal = bound_refusal over options bound ≡ Some refusal
 HasNoPlan over options other refusal = ⊥
 
 -- the line stands for a formula that is built, the text is that formula's, and the answer is exact
@@ -79,5 +76,5 @@ pub record RepliesExactly (command : Spoken) (files : Option (List Pair)) (left_
 pub record RefusesLongInput (command : Spoken) (files : Option (List Pair)) (left_before left_now before now : Option (List ℕ))
     (status : Status) : Type 0 where
   pub long : HasLongInput command files left_before left_now
-  pub printed : Appends before now long_text
+  pub printed : Appends before now (refusal_line long_text)
   pub is_status : status ≡ RefusedStatus

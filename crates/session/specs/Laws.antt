@@ -1,9 +1,10 @@
 -- What the laws of the outcome say.
-use Rattle.std.specs.Prelude.{◌≡◌, ℕ, List, Option, Some}
+use Rattle.std.specs.Prelude.{◌≡◌, ℕ, List, Option, Some, IfSome}
 use Rattle.command_words.specs.Command.{Spoken}
 use Rattle.command_words.specs.Words.{WordsSay}
 use Rattle.outside.specs.Shelf.{Pair}
-use Rattle.session.specs.Outcome.{Outcome, IsOutcome}
+use Rattle.session.specs.Command.{Say}
+use Rattle.session.specs.Outcome.{Outcome, IsOutcome, unwatched_outcome}
 use Rattle.session.specs.Serve.{AreThere}
 
 -- the files that the words name, if they are a command, are all among the pairs
@@ -20,8 +21,18 @@ pub record SomeOutcome (words : List (List ℕ)) (pairs : List Pair) (left : Lis
 abbrev pub InputHasAnOutcome : Type 0
 InputHasAnOutcome = (words : List (List ℕ)) (pairs : List Pair) (left : List ℕ) → AreNamed words pairs → SomeOutcome words pairs left
 
--- and have no other
+-- and all their outcomes are the same but for the brackets of the watched state
 abbrev pub OutcomeIsOne : Type 0
 OutcomeIsOne =
     (words : List (List ℕ)) (pairs : List Pair) (left : List ℕ) (u v : Option (List ℕ)) (a b : Outcome)
+    → IsOutcome words (Some pairs) (Some left) u a → IsOutcome words (Some pairs) (Some left) v b → unwatched_outcome a ≡ unwatched_outcome b
+
+-- the words say no command that watches a state
+abbrev pub WatchNothing : List (List ℕ) → Type 0
+WatchNothing words = Say words (λ command. IfSome command (λ c. c.options.watch ≡ 0))
+
+-- where no state is watched, they have no other
+abbrev pub UnwatchedOutcomeIsOne : Type 0
+UnwatchedOutcomeIsOne =
+    (words : List (List ℕ)) (pairs : List Pair) (left : List ℕ) (u v : Option (List ℕ)) (a b : Outcome) → WatchNothing words
     → IsOutcome words (Some pairs) (Some left) u a → IsOutcome words (Some pairs) (Some left) v b → a ≡ b

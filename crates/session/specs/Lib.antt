@@ -1,13 +1,11 @@
 pub mod Command
 pub mod ModelFiles
 pub mod FormulaLines
-pub mod Answer
+pub mod UnwatchedAnswer
 pub mod ExactState
 pub mod ExactAnswer
 pub mod ExactReply
 pub mod ExitCode
-pub mod FaultText
-pub mod Report
 pub mod LineReply
 pub mod Outcome
 pub mod ReadCause
@@ -17,7 +15,9 @@ pub mod WorkedExample
 -- what is computed
 pub mod BracketAnswer
 pub mod NextAnswer
+pub mod UntilPlan
 pub mod UntilAnswer
+pub mod WatchedBrackets
 pub mod FormulaAnswer
 -- what the functions' own steps say
 pub mod Ends

@@ -5,9 +5,9 @@ use Rattle.outside.specs.Shelf.{Pair, IsFile, IsTooBig}
 use Rattle.outside.specs.declared.files.TheConstants.{FILE_LIMIT}
 use Rattle.model_core.specs.Files.{TraLists, LabLists, RewLists}
 use Rattle.model_core.specs.Model.{LabelledChain, files_chain}
-use Rattle.session.specs.declared.status.ModelFault.{ModelFault}
-use Rattle.session.specs.declared.status.Which.{Which}
-use Rattle.session.specs.declared.status.Which.TheVariants as which
+use Rattle.report.specs.declared.model_fault.ModelFault.{ModelFault}
+use Rattle.report.specs.declared.model_fault.Which.{Which}
+use Rattle.report.specs.declared.model_fault.Which.TheVariants as which
 use Rattle.text_lines.specs.declared.fault.FileWhat.{FileWhat}
 use Rattle.text_lines.specs.declared.fault.FileWhat.TheVariants.{TooBig, WatchState}
 use Rattle.lab_reader.specs.LabFault.{LabFaultAt}

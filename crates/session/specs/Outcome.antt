@@ -1,14 +1,15 @@
 -- What is answered to the words, the files and the formulas.
-use Rattle.std.specs.Prelude.{◌≡◌, ℕ, ◌+◌, ◌≤◌, List, [], ◌∷◌, ◌++◌, length, codes, if◌then◌else◌, Option, IsNone, IsSomeAnd}
+use Rattle.std.specs.Prelude.{◌≡◌, ℕ, ◌+◌, ◌≤◌, List, ◌++◌, length, codes, if◌then◌else◌, Option, IsNone, IsSomeAnd}
 use Rattle.std.specs.Io.KnownBytes.{Consumes, Keeps, IsAtEnd}
 use Rattle.command_words.specs.Command.{Spoken}
 use Rattle.outside.specs.Shelf.{Pair}
 use Rattle.session.specs.Command.{Say}
-use Rattle.session.specs.FaultText.{model_fault_text}
-use Rattle.session.specs.LineReply.{NumberedReply, AreReplies, all_answered, replies_text}
+use Rattle.report.specs.FaultText.{model_fault_text}
+use Rattle.report.specs.RefusalText.{refusal_line}
+use Rattle.session.specs.LineReply.{NumberedReply, AreReplies, unwatched_replies, all_answered, replies_text}
 use Rattle.session.specs.ModelFiles.{IsFileFaulty, TakesModel, model_of}
 use Rattle.session.specs.declared.reading.TheConstants.{FORMULAS_LIMIT}
-use Rattle.session.specs.declared.status.ModelFault.{ModelFault}
+use Rattle.report.specs.declared.model_fault.ModelFault.{ModelFault}
 use Rattle.session.specs.declared.status.Status.{Status}
 
 -- what is said: the usage, what is wrong with a file, that the formulas have too many bytes, or the replies to their lines
@@ -36,7 +37,7 @@ pub record HasLongInput (command : Spoken) (files : Option (List Pair)) (before 
   pub model : TakesModel command files
   pub long : TakesTooMuch before now
 
--- the files stand for a model, the formulas were read, and these are the replies to their lines
+-- the files stand for a model, the formulas were read, and these are replies to their lines
 pub record HasReplies (command : Spoken) (files : Option (List Pair)) (before now : Option (List ℕ))
     (replies : List NumberedReply) : Type 0 where
   pub model : TakesModel command files
@@ -54,18 +55,25 @@ IsOutcomeOf command files before now (Replies replies) = IsSomeAnd command (λ c
 abbrev pub IsOutcome : List (List ℕ) → Option (List Pair) → Option (List ℕ) → Option (List ℕ) → Outcome → Type 0
 IsOutcome words files before now outcome = Say words (λ command. IsOutcomeOf command files before now outcome)
 
+-- the outcome but for the brackets of the watched state
+abbrev pub unwatched_outcome : Outcome → Outcome
+unwatched_outcome Usage = Usage
+unwatched_outcome (Faulty fault) = Faulty fault
+unwatched_outcome FormulasLong = FormulasLong
+unwatched_outcome (Replies replies) = Replies (unwatched_replies replies)
+
 abbrev pub usage_text : List ℕ
 usage_text =
     codes "usage: mrmc_any (ctmc M.tra M.lab | cmrm M.tra M.lab M.rew)"
-    ++ codes " [--workers 1..64] [--bits 8..48] [--jumps 1..16384] [--watch 0..1000] [--state 1..65536]" ++ 10 ∷ []
+    ++ codes " [--workers 1..64] [--bits 8..48] [--jumps 1..16384] [--watch 0..1000] [--state 1..65536]"
 
 abbrev pub long_text : List ℕ
-long_text = codes "refused FormulasLong" ++ 10 ∷ []
+long_text = codes "refused FormulasLong"
 
 abbrev pub outcome_text : Outcome → List ℕ
-outcome_text Usage = usage_text
-outcome_text (Faulty fault) = model_fault_text fault
-outcome_text FormulasLong = long_text
+outcome_text Usage = refusal_line usage_text
+outcome_text (Faulty fault) = refusal_line (model_fault_text fault)
+outcome_text FormulasLong = refusal_line long_text
 outcome_text (Replies replies) = replies_text replies
 
 -- the status is `Refused` where the formulas have too many bytes or a line is refused

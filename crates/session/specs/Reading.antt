@@ -9,14 +9,16 @@ use Rattle.command_words.specs.declared.command.Options.{Options}
 use Rattle.outside.specs.Shelf.{Pair, IsFile, IsTooBig}
 use Rattle.outside.specs.Whole.{WritesFront}
 use Rattle.outside.specs.declared.files.TheConstants.{FILE_LIMIT}
+use Rattle.csl_syntax.specs.CanonicalText.{formula_text}
+use Rattle.csl_syntax.specs.Tree.{tree_of, IsOver}
 use Rattle.model_core.specs.Files.{TraLists, LabLists, RewLists}
 use Rattle.model_core.specs.Model.{ModelLists, LabelledChain, IsBuiltOf, labelled_chain}
-use Rattle.session.specs.Answer.{answer_lists}
+use Rattle.report.specs.Answer.{answer_lists}
 use Rattle.session.specs.Command.{names_of}
 use Rattle.session.specs.LineReply.{LineReply, Answered, Faulty as FaultyLine, NotBuilt as UnbuiltLine, Refused as RefusedLine, NumberedReply, IsReplyTo, AreReplies, is_answer, all_answered, reply_text, replies_text}
 use Rattle.session.specs.ModelFiles.{TakesTra, IsTraFaulty, IsFileFaulty, TakesLab, IsLabFaulty, TakesRew, IsRewFaulty, TakesModel}
 use Rattle.session.specs.Outcome.{Outcome, Usage, Faulty, FormulasLong, Replies, TakesTooMuch, HasLongInput, outcome_text, outcome_status}
-use Rattle.session.specs.Report.{IsWritable}
+use Rattle.report.specs.AnswerText.{IsWritable}
 use Rattle.session.specs.Serve.{AsksFor, names_through}
 use Rattle.session.specs.declared.line_reply.Reply.{Reply}
 use Rattle.session.specs.declared.line_reply.Reply.TheVariants as reply
@@ -31,19 +33,19 @@ use Rattle.session.specs.declared.status.Status.{Status}
 use Rattle.text_lines.specs.Lines.{LineText}
 use Rattle.text_lines.specs.declared.fault.FileFault.{FileFault}
 
--- what a reply says
-abbrev pub line_reply_of : Reply → LineReply
-line_reply_of (reply.Answered text answer) = Answered text.items (answer_lists answer)
-line_reply_of (reply.Faulty fault) = FaultyLine fault
-line_reply_of reply.NotBuilt = UnbuiltLine
-line_reply_of (reply.Refused refusal) = RefusedLine refusal
+-- what a reply says, by the names of the labels
+abbrev pub line_reply_of : List (List ℕ) → Reply → LineReply
+line_reply_of names (reply.Answered formula answer) = Answered (formula_text names (tree_of formula)) (answer_lists answer)
+line_reply_of names (reply.Faulty fault) = FaultyLine fault
+line_reply_of names reply.NotBuilt = UnbuiltLine
+line_reply_of names (reply.Refused refusal) = RefusedLine refusal
 
 -- the lines of the reply can be written
-abbrev pub IsReplyWritable : Reply → Type 0
-IsReplyWritable (reply.Answered text answer) = IsWritable (answer_lists answer)
-IsReplyWritable (reply.Faulty fault) = Unit {0}
-IsReplyWritable reply.NotBuilt = Unit {0}
-IsReplyWritable (reply.Refused refusal) = Unit {0}
+abbrev pub IsReplyWritable : List (List ℕ) → Reply → Type 0
+IsReplyWritable names (reply.Answered formula answer) = IsOver (length names) (tree_of formula) × IsWritable (answer_lists answer)
+IsReplyWritable names (reply.Faulty fault) = Unit {0}
+IsReplyWritable names reply.NotBuilt = Unit {0}
+IsReplyWritable names (reply.Refused refusal) = Unit {0}
 
 -- the name that is borrowed, if there is one
 abbrev pub name_in : Option (Bor (List ℕ)) → Option (List ℕ)

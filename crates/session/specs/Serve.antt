@@ -1,15 +1,15 @@
 -- What the top call promises.
-use Rattle.std.specs.Prelude.{◌≡◌, ℕ, ◌⊎◌, List, ◌++◌, take, Option, IfSome, IsSome, IsSomeAnd}
+use Rattle.std.specs.Prelude.{◌≡◌, ℕ, ◌⊎◌, List, ◌++◌, take, Option, Some, IfSome, IsSome, IsSomeAnd}
 use Rattle.std.specs.Io.KnownBytes.{Appends}
 use Rattle.command_words.specs.Command.{Spoken}
 use Rattle.outside.specs.Shelf.{Pair, file_named}
 use Rattle.outside.specs.Whole.{WritesFront, AllFlushed}
 use Rattle.session.specs.Command.{Say, names_of}
 use Rattle.session.specs.ExactReply.{RepliesExactly, RefusesLongInput}
-use Rattle.session.specs.Outcome.{Outcome, IsOutcome, outcome_text, outcome_status}
+use Rattle.session.specs.Outcome.{Outcome, IsOutcome, unwatched_outcome, outcome_text, outcome_status}
 use Rattle.session.specs.declared.status.Fault.TheVariants.{Read, Write}
-use Rattle.session.specs.declared.status.Which.{Which}
-use Rattle.session.specs.declared.status.Which.TheVariants as which
+use Rattle.report.specs.declared.model_fault.Which.{Which}
+use Rattle.report.specs.declared.model_fault.Which.TheVariants as which
 use Rattle.session.specs.declared.status.Status.{Status}
 use Rattle.session.specs.declared.status.Status.TheVariants.{Done, Refused, Usage, Model, Outside, Memory}
 
@@ -25,6 +25,14 @@ pub record Settles (words : List (List ℕ)) (files : Option (List Pair)) (left_
   pub is_outcome : IsOutcome words files left_before left_now outcome
   pub is_status : status ≡ outcome_status outcome
   pub says : Says before now flushed (outcome_text outcome)
+
+-- the text of an outcome is written, which is the given one but for the brackets of the watched state
+pub record SaysAlike (words : List (List ℕ)) (files : Option (List Pair)) (left_before left_now : Option (List ℕ)) (written : List ℕ)
+    (now : Option (List ℕ)) (outcome : Outcome) : Type 0 where
+  pub said : Outcome
+  pub is_outcome : IsOutcome words files left_before left_now said
+  pub alike : unwatched_outcome said ≡ unwatched_outcome outcome
+  pub text : now ≡ Some (written ++ outcome_text said)
 
 -- the words say a command, whose files stand for a model, and what is printed of the formulas is exact
 abbrev pub AnswersExactly : List (List ℕ) → Option (List Pair) → Option (List ℕ) → Option (List ℕ) → Option (List ℕ) → Option (List ℕ)

@@ -1,26 +1,45 @@
--- How the answers of a time-bounded until are computed.
+-- How the answers of an until are computed.
 use Rattle.std.specs.Prelude.{ℕ, Bool, List, map, length}
 use Rattle.std.specs.List.{range_with_len}
 use Rattle.ctmc_semantics.specs.Chain.{Chain}
 use Rattle.ctmc_semantics.specs.Fraction.{Fraction}
+use Rattle.ctmc_semantics.specs.RoundedTables.{one_word}
 use Rattle.ctmc_semantics.specs.Rows.{rows_of}
 use Rattle.ctmc_semantics.specs.Sets.{known_exactly}
 use Rattle.ctmc_semantics.specs.Threshold.{Comparison}
 use Rattle.ctmc_semantics.specs.Uniformised.{uniformised}
-use Rattle.ctmc_semantics.specs.WordBracket.{WordBracket, word_bracket, settle, until_words}
-use Rattle.mix_columns.specs.Mixed.{words_of}
+use Rattle.ctmc_semantics.specs.WordBracket.{WordBracket, word_bracket, settle, until_words, last_words}
+use Rattle.command_words.specs.declared.command.Options.{Options}
+use Rattle.csl_semantics.specs.Meaning.{load_of}
+use Rattle.csl_syntax.specs.declared.formula.Bound.{Bound}
+use Rattle.csl_syntax.specs.declared.formula.Bound.TheVariants.{Unbounded, Time, Reward}
+use Rattle.mix_columns.specs.Mixed.{one_thread_words, words_of}
 use Rattle.mix_columns.specs.SideBySide.{bracket_at}
-use Rattle.step_core.specs.FrameLists.{SetLists}
+use Rattle.model_core.specs.Model.{LabelledChain}
+use Rattle.report.specs.declared.answer.Printed.{Printed}
+use Rattle.step_core.specs.PlanLists.{PlanLists}
 use Rattle.step_core.specs.WalkFound.{can_reach}
 use Rattle.step_core.specs.declared.bracket.Bracket.{Bracket}
-use Rattle.session.specs.BracketAnswer.{bracket_answer}
+use Rattle.session.specs.BracketAnswer.{bracket_answer, printed_units}
 use Rattle.session.specs.declared.state_answer.StateAnswer.{StateAnswer}
 
--- the bracket of a state in words: 1 at the goal, 0 where no walk leads to it, and else the mix of its columns
-abbrev pub state_words : Chain → Fraction → ℕ → (ℕ → Bool) → (ℕ → Bool) → ℕ → WordBracket
-state_words chain load bits live goal s =
+-- the bracket of a state in words, within a time of this load: 1 at the goal, 0 where no walk leads to it, and else the mix of its columns
+abbrev pub time_words : Chain → Fraction → ℕ → (ℕ → Bool) → (ℕ → Bool) → ℕ → WordBracket
+time_words chain load bits live goal s =
     settle (goal s) (can_reach chain.states chain.rate live goal s)
     (until_words (rows_of (uniformised chain)) load bits (known_exactly live goal) s)
+
+-- the same within any number of jumps: the last words of its columns, of which the upper ones start from the states that can reach the goal
+abbrev pub reach_words : Chain → ℕ → (ℕ → Bool) → (ℕ → Bool) → ℕ → WordBracket
+reach_words chain jumps live goal s =
+    let reach = can_reach chain.states chain.rate live goal in
+    settle (goal s) (reach s) (last_words (rows_of (uniformised chain)) jumps (known_exactly live goal) reach s)
+
+-- the bracket of a state in words, by the until's bound
+abbrev pub state_words : LabelledChain → Options → Bound → (ℕ → Bool) → (ℕ → Bool) → ℕ → WordBracket
+state_words over options Unbounded live goal s = reach_words over.chain options.jumps live goal s
+state_words over options (Time t) live goal s = time_words over.chain (load_of over t) options.bits live goal s
+state_words over options (Reward r) live goal s = record { lower = 0; upper = one_word }
 
 -- the answer of a state whose probability lies between the words
 abbrev pub words_answer : Comparison → WordBracket → Fraction → StateAnswer
@@ -31,8 +50,12 @@ abbrev pub first_answers : (ℕ → WordBracket) → Comparison → Fraction →
 first_answers words by q n = map (λ s. words_answer by (words s) q) (range_with_len 0 n)
 
 -- the answers at all states
-abbrev pub until_answers : Chain → Fraction → ℕ → (ℕ → Bool) → (ℕ → Bool) → Comparison → Fraction → List StateAnswer
-until_answers chain load bits live goal by q = first_answers (state_words chain load bits live goal) by q chain.states
+abbrev pub until_answers : LabelledChain → Options → Bound → (ℕ → Bool) → (ℕ → Bool) → Comparison → Fraction → List StateAnswer
+until_answers over options bound live goal by q = first_answers (state_words over options bound live goal) by q over.chain.states
+
+-- the answers at all states of a plan
+abbrev pub plan_answers : PlanLists → Comparison → Fraction → List StateAnswer
+plan_answers plan by q = first_answers (one_thread_words plan) by q (length plan.frame.rows)
 
 -- the words of a state, where the brackets of all states are listed
 abbrev pub listed_words : List Bracket → ℕ → WordBracket
@@ -42,6 +65,6 @@ listed_words brackets s = words_of (bracket_at brackets s)
 abbrev pub bracket_answers : List Bracket → Comparison → Fraction → List StateAnswer
 bracket_answers brackets by q = first_answers (listed_words brackets) by q (length brackets)
 
--- both sets of an until, where they are known exactly and listed
-abbrev pub exact_sets : List Bool → List Bool → SetLists
-exact_sets live goal = record { goal_must = goal; goal_may = goal; live_must = live; live_may = live }
+-- the brackets as they are printed
+abbrev pub printed_brackets : List Bracket → List Printed
+printed_brackets brackets = map (λ b. printed_units (word_bracket (words_of b))) brackets

@@ -2,7 +2,6 @@
 #![tactic(auto)]
 
 mod built;
-mod fault_line;
 mod formula_lines;
 mod laws;
 mod line_reply;
@@ -11,17 +10,19 @@ mod nested_verdict;
 mod next_states;
 mod reading;
 mod replies;
-mod report;
 mod state_answer;
 mod status;
 mod sure;
 mod top;
 mod truth_values;
+mod until_brackets;
+mod until_plan;
 mod until_states;
 mod worked_example;
 
 pub use laws::{input_has_an_outcome, outcome_is_one};
-pub use status::{Fault, ModelFault, Status, Which};
+pub use report::{ModelFault, Which};
+pub use status::{Fault, Status};
 pub use sure::serve_surely;
 pub use top::serve;
 pub use worked_example::serve_example;

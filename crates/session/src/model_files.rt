@@ -5,11 +5,11 @@ ghost use Rattle.outside.specs.Causes.{HasCause};
 ghost use Rattle.session.specs.Reading.{name_in, IsFileReading, IsTraReading, IsLabReading, IsRewReading, IsModelReading, AsksForFile, AsksForRew, AsksForModel};
 
 use crate::reading::Stop;
-use crate::{ModelFault, Which};
 use command_words::Command;
 use lab_reader::read_lab;
 use model_core::{Lab, Model, Rew, Tra};
 use outside::{Files, TakeFault};
+use report::{ModelFault, Which};
 use rew_reader::read_rew;
 use std::alloc::Global;
 use text_lines::{FileFault, FileWhat, ReadFault};

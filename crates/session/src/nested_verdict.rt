@@ -1,23 +1,28 @@
 // The answer to a formula over a model.
-ghost use Rattle.std.specs.Prelude.{◌≡◌, ◌<◌, ◌≤◌, length, IfOk, IsTrue};
+ghost use Rattle.std.specs.Prelude.{◌≡◌, ◌<◌, length, IfOk, IsTrue};
+ghost use Rattle.command_words.specs.Laws.{AreInRange};
 ghost use Rattle.csl_syntax.specs.Tree.{tree_of, IsOver};
 ghost use Rattle.model_core.specs.Model.{labelled_chain};
-ghost use Rattle.session.specs.Answer.{answer_lists};
-ghost use Rattle.session.specs.FormulaAnswer.{Answers, Refuses, formula_answer, is_built, verdicts_answer, watched_answer, shown_answer};
-ghost use Rattle.session.specs.Report.{IsWritable};
-ghost use Rattle.session.specs.UntilAnswer.{exact_sets};
+ghost use Rattle.report.specs.Answer.{answer_lists};
+ghost use Rattle.session.specs.UnwatchedAnswer.{unwatched_answer};
+ghost use Rattle.session.specs.FormulaAnswer.{Answers, Refuses, formula_answer, is_built, verdicts_answer, shown_answer};
+ghost use Rattle.report.specs.AnswerText.{IsWritable};
+ghost use Rattle.session.specs.UntilPlan.{exact_sets};
+ghost use Rattle.session.specs.WatchedBrackets.{IsWatched};
 
 use crate::next_states::check_next;
-use crate::report::{Answer, Printed, Shown, Verdict};
 use crate::state_answer::StateAnswer;
 use crate::truth_values::truths;
-use crate::until_states::check_until;
+use crate::until_plan::until_plan;
+use crate::until_states::{UntilStates, check_until};
 use command_words::Options;
-use csl_syntax::{Bound, Formula};
+use csl_syntax::Formula;
 use model_core::Model;
+use outside::Gate;
+use report::{Answer, Printed, Shown, Verdict};
 use std::alloc::{AllocError, Global};
+use std::thread::Threads;
 use step_core::{PlanError, Sets};
-use uniformise::time_plan;
 
 /// Why a formula isn't answered.
 #[derive(Clone, Copy, Debug, PartialEq, Eq)]
@@ -58,19 +63,21 @@ impl From<AllocError> for CheckFault {
 }
 
 /// Answers the formula at each state of the model.
-pub(crate) fn check(
+pub(crate) fn check<R: Threads + Sync, G: Gate>(
+    rt: &R,
     alloc: Global,
     model: &Model,
     formula: &Formula,
     options: &Options,
+    gate: &G,
 ) -> Result<Answer, CheckFault>
     requires over { IsOver (length model.now.names) (tree_of formula.now) }
     requires built { IsTrue (is_built (tree_of formula.now)) }
-    requires some_bits { 8 ≤ options.now.bits }
-    requires few_bits { options.now.bits ≤ 48 }
+    requires options { AreInRange options.now }
     requires state { options.now.state < model.now.n }
     ensures answer { IfOk result (λ answer. formula_answer (labelled_chain model.now) options.now (tree_of formula.now)
-        ≡ Answers (answer_lists answer)) }
+        ≡ Answers (unwatched_answer (answer_lists answer))) }
+    ensures watched { IfOk result (λ answer. IsWatched options.now (answer_lists answer)) }
     ensures refused { (refusal : PlanError) → result ≡ Err (CheckFault.Refused refusal)
         → formula_answer (labelled_chain model.now) options.now (tree_of formula.now) ≡ Refuses refusal }
     ensures writable { IfOk result (λ answer. IsWritable (answer_lists answer)) }
@@ -81,18 +88,17 @@ pub(crate) fn check(
             let states = check_next(alloc, model, &goal, *op, *threshold)?;
             Ok(shown_answer(alloc, &states, None, Vec::new(alloc))?)
         }
-        Formula::Until(op, threshold, left, bound, right) => match bound {
-            Bound::Time(time) => {
-                let live = truths(alloc, model, left)?;
-                let goal = truths(alloc, model, right)?;
-                let sets = exact_sets(alloc, live, goal)?;
-                let plan = time_plan(alloc, model, sets, *time, options.bits)?;
-                let states = check_until(alloc, &plan, *op, *threshold)?;
-                Ok(watched_answer(alloc, &states, plan.layers, options)?)
-            }
-            Bound::Unbounded => unreachable!(),
-            Bound::Reward(_) => unreachable!(),
-        },
+        Formula::Until(op, threshold, left, bound, right) => {
+            let live = truths(alloc, model, left)?;
+            let goal = truths(alloc, model, right)?;
+            let sets = exact_sets(alloc, live, goal)?;
+            let plan = until_plan(alloc, model, sets, bound, options)?;
+            let last = plan.layers;
+            let UntilStates { states, watched } = check_until(
+                rt, alloc, plan, *op, *threshold, options, gate,
+            )?;
+            Ok(shown_answer(alloc, &states, Some(last), watched)?)
+        }
         Formula::Tt
         | Formula::Ff
         | Formula::Label(_)
@@ -126,20 +132,6 @@ fn verdicts_answer(alloc: Global, truths: &[bool]) -> Result<Answer, AllocError>
         verdicts,
         shown: None,
     })
-}
-
-// The answer to an until, by the answers at the states: the bracket of the watched state stands as often as it is watched.
-fn watched_answer(
-    alloc: Global,
-    states: &[StateAnswer],
-    last: u32,
-    options: &Options,
-) -> Result<Answer, AllocError>
-    requires { options.now.state < length states.now }
-    ensures { IfOk result (λ answer. answer_lists answer ≡ watched_answer options.now last states.now) }
-{
-    let watched = vec![in alloc; states[options.state as usize].bracket; options.watch as usize]?;
-    shown_answer(alloc, states, Some(last), watched)
 }
 
 // The answer to a probability operator, by the answers at the states.

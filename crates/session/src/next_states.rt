@@ -6,7 +6,7 @@ ghost use Rattle.ctmc_semantics.specs.Sets.{holds_at};
 ghost use Rattle.csl_semantics.specs.Meaning.{comparison_of};
 ghost use Rattle.model_core.specs.Transitions.{chain_of};
 ghost use Rattle.session.specs.NextAnswer.{next_answers};
-ghost use Rattle.session.specs.Report.{IsPrintable};
+ghost use Rattle.report.specs.AnswerText.{IsPrintable};
 
 use crate::state_answer::{Ends, StateAnswer, ends_answer};
 use csl_syntax::Op;

@@ -8,11 +8,11 @@ ghost use Rattle.session.specs.Command.{Say};
 ghost use Rattle.session.specs.ReadCause.{HasReadCause, IsUntouched};
 ghost use Rattle.session.specs.Reading.{IsPrepared, IsReady, IsInputReading, IsInputOver, AsksBefore};
 
-use crate::ModelFault;
 use crate::model_files::{ModelReading, read_model};
 use command_words::{Command, Options, WordsFault, read_words};
 use model_core::Model;
 use outside::{Files, Source, TakeFault, read_whole};
+use report::ModelFault;
 use std::alloc::{AllocError, Global};
 
 /// What was read before anything is answered.

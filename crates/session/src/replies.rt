@@ -9,16 +9,19 @@ ghost use Rattle.text_lines.specs.Items.{line_text};
 use crate::formula_lines::formula_lines;
 use crate::line_reply::{reply_to, write_reply};
 use crate::reading::Input;
-use outside::{PutFault, Sink};
+use outside::{Gate, PutFault, Sink};
 use std::alloc::Global;
+use std::thread::Threads;
 use text_lines::Line;
 
 /// Replies to each line of the formulas, and writes the reply before the next line is looked at. Tells whether each line
 /// is answered.
-pub(crate) fn write_replies<K: Sink>(
+pub(crate) fn write_replies<R: Threads + Sync, K: Sink, G: Gate>(
+    rt: &R,
     alloc: Global,
     input: &Input,
     out: &mut K,
+    gate: &G,
 ) -> Result<bool, PutFault>
     requires options { AreInRange input.now.options }
     requires state { input.now.options.state < input.now.model.n }
@@ -31,18 +34,20 @@ pub(crate) fn write_replies<K: Sink>(
 {
     let mut all_answered = true;
     for line in formula_lines(&input.text) {
-        let answered = reply_line(alloc, input, line, out)?;
+        let answered = reply_line(rt, alloc, input, line, out, gate)?;
         all_answered &= answered;
     }
     Ok(all_answered)
 }
 
 // Writes the reply to a line, and tells whether it is an answer.
-fn reply_line<K: Sink>(
+fn reply_line<R: Threads + Sync, K: Sink, G: Gate>(
+    rt: &R,
     alloc: Global,
     input: &Input,
     line: Line<'_>,
     out: &mut K,
+    gate: &G,
 ) -> Result<bool, PutFault>
     requires options { AreInRange input.now.options }
     requires state { input.now.options.state < input.now.model.n }
@@ -53,7 +58,7 @@ fn reply_line<K: Sink>(
     ensures flushed { K.flushed out.new ≡ K.flushed out.old }
     ensures cause { HasCause (K.fault_count out.old) (K.fault_count out.new) (IsErrOf result PutFault.Failed) }
 {
-    let reply = reply_to(alloc, &input.model, &input.options, line.bytes)?;
-    write_reply(alloc, line.number, &reply, out)?;
+    let reply = reply_to(rt, alloc, &input.model, &input.options, line.bytes, gate)?;
+    write_reply(alloc, line.number, &reply, input.model.labels(), out)?;
     Ok(reply.is_answer())
 }

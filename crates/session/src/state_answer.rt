@@ -1,16 +1,17 @@
 // The answer at a state, by a bracket round its probability.
 ghost use Rattle.std.specs.Prelude.{◌≡◌, ◌+◌, ◌<◌, ◌≤◌, ◌*◌, ◌^◌};
 ghost use Rattle.ctmc_semantics.specs.Fraction.{fraction, decimal_fraction};
-ghost use Rattle.ctmc_semantics.specs.WordBracket.{WordBracket};
+ghost use Rattle.ctmc_semantics.specs.WordBracket.{WordBracket, word_bracket};
+ghost use Rattle.mix_columns.specs.Mixed.{words_of};
 ghost use Rattle.csl_semantics.specs.Meaning.{comparison_of};
-ghost use Rattle.session.specs.BracketAnswer.{bracket_answer, bracket_verdict, decided_verdict};
+ghost use Rattle.session.specs.BracketAnswer.{bracket_answer, bracket_verdict, decided_verdict, printed_units};
 ghost use Rattle.session.specs.Ends.{AreProbabilities, ends_bracket};
-ghost use Rattle.session.specs.Report.{IsPrintable};
+ghost use Rattle.report.specs.AnswerText.{IsPrintable};
 ghost use Rattle.session.specs.UntilAnswer.{words_answer};
 
-use crate::report::{Printed, Verdict};
 use csl_syntax::Op;
 use decimal_text::Decimal;
+use report::{Printed, Verdict};
 use round_out::{ONE, cmp_frac, mul_div_ceil, mul_div_floor};
 use step_core::Bracket;
 
@@ -43,6 +44,17 @@ impl Ends {
             den,
         }
     }
+
+    // The ends of a bracket of words.
+    fn of_words(words: Bracket) -> Ends
+        ensures { result ≡ record { lower = words.lower; upper = words.upper; den = ONE } }
+    {
+        Ends {
+            lower: words.lower,
+            upper: words.upper,
+            den: ONE,
+        }
+    }
 }
 
 /// The answer of a state whose probability lies between the words.
@@ -53,12 +65,7 @@ pub(crate) fn words_answer(words: Bracket, op: Op, threshold: Decimal) -> StateA
         (decimal_fraction threshold.c threshold.x) }
     ensures printable { IsPrintable result.bracket }
 {
-    let ends = Ends {
-        lower: words.lower,
-        upper: words.upper,
-        den: ONE,
-    };
-    ends_answer(ends, op, threshold)
+    ends_answer(Ends::of_words(words), op, threshold)
 }
 
 // The answer of a state whose probability lies between the ends: what they show of the threshold, and the ends in units
@@ -70,11 +77,30 @@ pub(crate) fn ends_answer(ends: Ends, op: Op, threshold: Decimal) -> StateAnswer
 {
     StateAnswer {
         verdict: ends_verdict(ends, op, threshold),
-        bracket: Printed {
-            low: mul_div_floor(ends.lower, UNITS, ends.den),
-            high: mul_div_ceil(ends.upper, UNITS, ends.den),
-        },
+        bracket: printed(ends),
     }
+}
+
+// The ends in units of 10^-12, rounded down and up.
+fn printed(ends: Ends) -> Printed
+    requires probabilities { AreProbabilities ends }
+    ensures units { result ≡ printed_units (ends_bracket ends) }
+    ensures printable { IsPrintable result }
+{
+    Printed {
+        low: mul_div_floor(ends.lower, UNITS, ends.den),
+        high: mul_div_ceil(ends.upper, UNITS, ends.den),
+    }
+}
+
+/// The words in units of 10^-12, rounded down and up.
+pub(crate) fn printed_words(words: Bracket) -> Printed
+    requires lower { words.lower ≤ ONE }
+    requires upper { words.upper ≤ ONE }
+    ensures units { result ≡ printed_units (word_bracket (words_of words)) }
+    ensures printable { IsPrintable result }
+{
+    printed(Ends::of_words(words))
 }
 
 // What the ends show of the threshold.

@@ -1,8 +1,8 @@
 // The top call where nothing outside fails.
-ghost use Rattle.std.specs.Prelude.{◌≡◌, [], ◌++◌, Some, map, string_bytes};
-ghost use Rattle.session.specs.Outcome.{Outcome, IsOutcome, outcome_text, outcome_status};
+ghost use Rattle.std.specs.Prelude.{◌≡◌, [], Some, map, string_bytes};
+ghost use Rattle.session.specs.Outcome.{Outcome, IsOutcome, outcome_status};
 ghost use Rattle.session.specs.Laws.{AreNamed};
-ghost use Rattle.session.specs.Serve.{IsMemoryOr, Settles};
+ghost use Rattle.session.specs.Serve.{IsMemoryOr, SaysAlike, Settles};
 
 use crate::{Status, serve};
 use outside::{OpenGate, SureFiles, SureSink, SureSource};
@@ -26,7 +26,8 @@ pub fn serve_surely(
         (Some out.old.written) (Some out.new.written) (Some out.new.flushed) result) }
     ensures told { (now : _) (outcome : Outcome) → IsOutcome (map string_bytes words.now) (Some files.old.files) (Some formulas.old.left)
         now outcome
-        → IsMemoryOr result ((result ≡ outcome_status outcome) × (out.new.written ≡ out.old.written ++ outcome_text outcome)) }
+        → IsMemoryOr result ((result ≡ outcome_status outcome) × SaysAlike (map string_bytes words.now) (Some files.old.files) (Some formulas.old.left)
+        (Some formulas.new.left) out.old.written (Some out.new.written) outcome) }
 {
     serve(rt, alloc, words, files, formulas, out, &OpenGate)
 }

@@ -1,7 +1,8 @@
 // One run of the top call over objects in memory, and what is asserted of it.
 use super::*;
 use outside::{
-    Files, MemFiles, MemSink, MemSource, OpenGate, Sink, Source, SureFiles, SureSink, SureSource,
+    Files, Gate, MemFiles, MemSink, MemSource, OpenGate, Sink, Source, SureFiles, SureSink,
+    SureSource,
 };
 use std::alloc::{AllocError, Global};
 use std::process::Abort;
@@ -19,7 +20,10 @@ mod next;
 mod options;
 mod reach;
 mod truths;
+mod unbounded;
 mod until;
+mod watching;
+mod workers;
 
 // Three states; from the first the second is next with the rate 3, and the third with the rate 7.
 const TRA: &[u8] = b"STATES 3\nTRANSITIONS 2\n1 2 3\n1 3 7\n";
@@ -100,20 +104,22 @@ fn serve_input(
     input: Input<'_>,
     cut: usize,
 ) -> Result<(Status, Vec<u8>), Fail> {
+    serve_gated(rt, input, cut, &OpenGate)
+}
+
+// The same, with a gate.
+fn serve_gated<G: Gate>(
+    rt: &(impl Threads + Sync + AllocGlobal),
+    input: Input<'_>,
+    cut: usize,
+    gate: &G,
+) -> Result<(Status, Vec<u8>), Fail> {
     let alloc = rt.alloc();
     let words = input.words(alloc)?;
     let mut files = SureFiles::new(input.files(alloc)?);
     let mut formulas = SureSource::new(input.formulas.to_vec(alloc)?, cut);
     let mut out = SureSink::new(Vec::new(alloc), cut);
-    let status = serve(
-        rt,
-        alloc,
-        &words,
-        &mut files,
-        &mut formulas,
-        &mut out,
-        &OpenGate,
-    );
+    let status = serve(rt, alloc, &words, &mut files, &mut formulas, &mut out, gate);
     Ok((status, out.bytes().to_vec(alloc)?))
 }
 

@@ -7,23 +7,23 @@ ghost use Rattle.outside.specs.Shelf.{Pair};
 ghost use Rattle.outside.specs.Whole.{AllFlushed};
 ghost use Rattle.session.specs.Command.{Say};
 ghost use Rattle.session.specs.ModelFiles.{IsFileFaulty};
-ghost use Rattle.session.specs.Outcome.{Outcome, IsOutcome, outcome_text, outcome_status};
+ghost use Rattle.session.specs.Outcome.{Outcome, IsOutcome, outcome_status};
 ghost use Rattle.session.specs.ReadCause.{HasReadCause, IsUntouched};
 ghost use Rattle.session.specs.Reading.{IsReady, Writes, WritesFrontOf};
-ghost use Rattle.session.specs.Serve.{Settles, AnswersExactly, IsCutShort, AsksBy, IsUsageOrLost, IsAnswering, IsLostOr, IsLost};
+ghost use Rattle.session.specs.Serve.{Settles, AnswersExactly, IsCutShort, AsksBy, IsUsageOrLost, IsAnswering, IsLostOr, IsLost, SaysAlike};
 
-use crate::fault_line::write_fault;
 use crate::reading::{Prepared, Stop, prepare};
 use crate::replies::write_replies;
 use crate::{Fault, Status};
-use outside::{Failed, Files, Gate, PutFault, Sink, Source, write_whole};
+use outside::{Failed, Files, Gate, PutFault, Sink, Source};
+use report::{write_fault, write_refusal};
 use std::alloc::Global;
 use std::thread::Threads;
 
 const USAGE: &[u8] =
-    b"usage: mrmc_any (ctmc M.tra M.lab | cmrm M.tra M.lab M.rew) [--workers 1..64] [--bits 8..48] [--jumps 1..16384] [--watch 0..1000] [--state 1..65536]\n";
+    b"usage: mrmc_any (ctmc M.tra M.lab | cmrm M.tra M.lab M.rew) [--workers 1..64] [--bits 8..48] [--jumps 1..16384] [--watch 0..1000] [--state 1..65536]";
 
-const FORMULAS_LONG: &[u8] = b"refused FormulasLong\n";
+const FORMULAS_LONG: &[u8] = b"refused FormulasLong";
 
 /// Does one command: all that the program does.
 ///
@@ -32,13 +32,13 @@ const FORMULAS_LONG: &[u8] = b"refused FormulasLong\n";
 /// the next is looked at; blank lines are skipped, and a line whose only word is `quit` ends them. At the end the output
 /// is flushed. The words are the program's name and the arguments.
 pub fn serve<F: Files, S: Source, K: Sink, G: Gate>(
-    _rt: &(impl Threads + Sync),
+    rt: &(impl Threads + Sync),
     alloc: Global,
     words: &[String],
     files: &mut F,
     formulas: &mut S,
     out: &mut K,
-    _gate: &G,
+    gate: &G,
 ) -> Status
     // The headline: each line of the formulas has a reply, and what is printed is exact.
     ensures exact { IsAnswering result → AnswersExactly (map string_bytes words.now) (F.files files.old) (S.left formulas.old)
@@ -52,11 +52,13 @@ pub fn serve<F: Files, S: Source, K: Sink, G: Gate>(
     ensures model { (fault : _) → result ≡ Status.Model fault → Say (map string_bytes words.now) (λ command. IsSomeAnd command (λ c.
         IsFileFaulty c (F.files files.old) fault × Keeps (S.left formulas.old) (S.left formulas.new))) }
 
-    // Where all is told, the status and the text are a function of the words, the files and the formulas.
+    // Where all is told, the status and the text are a function of the words, the files and the formulas, but for the brackets
+    // of the watched state.
     ensures told { (pairs : List Pair) (left written : List ℕ) (now : _) (outcome : Outcome) → F.files files.old ≡ Some pairs → S.left
         formulas.old ≡ Some left
         → K.written out.old ≡ Some written → IsOutcome (map string_bytes words.now) (Some pairs) (Some left) now outcome
-        → IsLostOr result ((result ≡ outcome_status outcome) × (K.written out.new ≡ Some (written ++ outcome_text outcome))) }
+        → IsLostOr result ((result ≡ outcome_status outcome) × SaysAlike (map string_bytes words.now) (Some pairs) (Some left)
+        (S.left formulas.new) written (K.written out.new) outcome) }
 
     // Words that are no command are never anything else.
     ensures only_usage { ¬ AreCommand (map string_bytes words.now) → IsUsageOrLost result }
@@ -90,7 +92,7 @@ pub fn serve<F: Files, S: Source, K: Sink, G: Gate>(
         Err(Stop::Read) => return Status::Outside(Fault::Read),
         Err(Stop::Memory) => return Status::Memory,
     };
-    match say(alloc, out, &prepared) {
+    match say(rt, alloc, out, &prepared, gate) {
         Ok(status) => status,
         Err(PutFault::Failed) => Status::Outside(Fault::Write),
         Err(PutFault::Memory) => Status::Memory,
@@ -98,7 +100,13 @@ pub fn serve<F: Files, S: Source, K: Sink, G: Gate>(
 }
 
 // Writes and flushes what is said of what was read, and tells the status.
-fn say<K: Sink>(alloc: Global, out: &mut K, prepared: &Prepared) -> Result<Status, PutFault>
+fn say<R: Threads + Sync, K: Sink, G: Gate>(
+    rt: &R,
+    alloc: Global,
+    out: &mut K,
+    prepared: &Prepared,
+    gate: &G,
+) -> Result<Status, PutFault>
     requires { IsReady prepared.now }
     ensures written { IfOk result (Writes prepared.now (K.written out.old) (K.written out.new)) }
     ensures flushed { OnOk result (AllFlushed (K.written out.new) (K.flushed out.new)) }
@@ -106,14 +114,20 @@ fn say<K: Sink>(alloc: Global, out: &mut K, prepared: &Prepared) -> Result<Statu
     ensures unflushed { OnErr result (K.flushed out.new ≡ K.flushed out.old) }
     ensures cause { HasCause (K.fault_count out.old) (K.fault_count out.new) (IsErrOf result PutFault.Failed) }
 {
-    let status = write_said(alloc, out, prepared)?;
+    let status = write_said(rt, alloc, out, prepared, gate)?;
     match out.flush() {
         Ok(()) => Ok(status),
         Err(Failed) => Err(PutFault::Failed),
     }
 }
 
-fn write_said<K: Sink>(alloc: Global, out: &mut K, prepared: &Prepared) -> Result<Status, PutFault>
+fn write_said<R: Threads + Sync, K: Sink, G: Gate>(
+    rt: &R,
+    alloc: Global,
+    out: &mut K,
+    prepared: &Prepared,
+    gate: &G,
+) -> Result<Status, PutFault>
     requires { IsReady prepared.now }
     ensures written { IfOk result (Writes prepared.now (K.written out.old) (K.written out.new)) }
     ensures front { WritesFrontOf prepared.now (K.written out.old) (K.written out.new) }
@@ -122,7 +136,7 @@ fn write_said<K: Sink>(alloc: Global, out: &mut K, prepared: &Prepared) -> Resul
 {
     match prepared {
         Prepared::Usage => {
-            write_whole(out, USAGE)?;
+            write_refusal(alloc, USAGE, out)?;
             Ok(Status::Usage)
         }
         Prepared::Faulty(fault) => {
@@ -130,11 +144,11 @@ fn write_said<K: Sink>(alloc: Global, out: &mut K, prepared: &Prepared) -> Resul
             Ok(Status::Model(*fault))
         }
         Prepared::FormulasLong => {
-            write_whole(out, FORMULAS_LONG)?;
+            write_refusal(alloc, FORMULAS_LONG, out)?;
             Ok(Status::Refused)
         }
         Prepared::Lines(input) => {
-            let all_answered = write_replies(alloc, input, out)?;
+            let all_answered = write_replies(rt, alloc, input, out, gate)?;
             Ok(if all_answered {
                 Status::Done
             } else {

@@ -1,39 +1,61 @@
-// The answers of a time-bounded until at each state, from its plan.
-ghost use Rattle.std.specs.Prelude.{◌≡◌, ℕ, ◌≤◌, Bool, List, IfOk, All};
+// The answers of an until at each state, from its plan.
+ghost use Rattle.std.specs.Prelude.{◌≡◌, ◌+◌, ◌*◌, ◌<◌, ◌≤◌, IfOk, All, length, map};
+ghost use Rattle.command_words.specs.Laws.{AreInRange};
 ghost use Rattle.csl_semantics.specs.Meaning.{comparison_of};
-ghost use Rattle.ctmc_semantics.specs.Chain.{Chain};
-ghost use Rattle.ctmc_semantics.specs.Fraction.{Fraction, decimal_fraction};
-ghost use Rattle.ctmc_semantics.specs.Sets.{holds_at};
-ghost use Rattle.step_core.specs.FrameLists.{SetLists};
-ghost use Rattle.uniformise.specs.TimePlan.{IsTimePlan};
-ghost use Rattle.session.specs.Report.{IsPrintable};
-ghost use Rattle.session.specs.UntilAnswer.{until_answers, bracket_answers, exact_sets};
+ghost use Rattle.ctmc_semantics.specs.Fraction.{decimal_fraction};
+ghost use Rattle.step_core.specs.SoundPlan.{IsSoundPlan};
+ghost use Rattle.report.specs.AnswerText.{IsPrintable};
+ghost use Rattle.session.specs.UntilAnswer.{plan_answers, bracket_answers, printed_brackets};
+ghost use Rattle.session.specs.WatchedBrackets.{AreTakenOf};
 
-use crate::state_answer::{StateAnswer, words_answer};
+use crate::state_answer::{StateAnswer, printed_words, words_answer};
+use crate::until_brackets::until_brackets;
+use command_words::Options;
 use csl_syntax::Op;
 use decimal_text::Decimal;
+use outside::Gate;
+use report::Printed;
 use round_out::ONE;
 use std::alloc::{AllocError, Global};
-use step_core::{Bracket, Plan};
-use window_engine::window_brackets;
+use std::thread::Threads;
+use step_core::{Bracket, Plan, Watch};
 
-/// Answers `P{op threshold}[live U[0,t] goal]` at each state, by the plan of reaching the goal through live states within
-/// the time. Both sets are known exactly.
-pub(crate) fn check_until(
+/// The answer at each state, and the brackets of the watched state in the order in which they were
+/// taken.
+#[derive(Debug, Drop)]
+pub(crate) struct UntilStates {
+    pub(crate) states: Vec<StateAnswer>,
+    pub(crate) watched: Vec<Printed>,
+}
+
+/// Answers `P{op threshold}[live U goal]`, with the bound of the plan, at each state.
+pub(crate) fn check_until<R: Threads + Sync, G: Gate>(
+    rt: &R,
     alloc: Global,
-    plan: &Plan,
+    plan: Plan,
     op: Op,
     threshold: Decimal,
-) -> Result<Vec<StateAnswer>, AllocError>
-    requires plan { (chain : Chain) × (load : Fraction) × (bits : ℕ) × (sets : SetLists) × IsTimePlan chain load bits sets plan.now }
-    ensures answers { (chain : Chain) → (load : Fraction) → (bits : ℕ) → (live goal : List Bool)
-        → IsTimePlan chain load bits (exact_sets live goal) plan.now
-        → IfOk result (λ states. states.items ≡ until_answers chain load bits (holds_at live) (holds_at goal)
-        (comparison_of op) (decimal_fraction threshold.c threshold.x)) }
-    ensures printable { IfOk result (λ states. All (λ a. IsPrintable a.bracket) states.items) }
+    options: &Options,
+    gate: &G,
+) -> Result<UntilStates, AllocError>
+    requires sound { IsSoundPlan plan }
+    requires cells { (plan.layers + 1) * length plan.frame.rows ≤ 8388608 }
+    requires options { AreInRange options.now }
+    requires state { options.now.state < length plan.frame.rows }
+    ensures answers { IfOk result (λ until. until.states.items
+        ≡ plan_answers plan (comparison_of op) (decimal_fraction threshold.c threshold.x)) }
+    ensures watched { IfOk result (λ until. AreTakenOf options.now (map (λ a. a.bracket) until.states.items) until.watched.items) }
+    ensures printable { IfOk result (λ until. All (λ a. IsPrintable a.bracket) until.states.items) }
+    ensures watched_printable { IfOk result (λ until. All IsPrintable until.watched.items) }
 {
-    let brackets = window_brackets(alloc, plan)?;
-    bracket_answers(alloc, &brackets, op, threshold)
+    let watch = Watch {
+        state: options.state,
+        count: options.watch,
+    };
+    let brackets = until_brackets(rt, alloc, plan, options.workers, watch, gate)?;
+    let states = bracket_answers(alloc, &brackets.states, op, threshold)?;
+    let watched = printed_brackets(alloc, &brackets.watched)?;
+    Ok(UntilStates { states, watched })
 }
 
 // The answers at the states by their brackets.
@@ -54,4 +76,18 @@ fn bracket_answers(
         answers.push(words_answer(brackets[s], op, threshold))?;
     }
     Ok(answers)
+}
+
+// The brackets as they are printed.
+fn printed_brackets(alloc: Global, brackets: &[Bracket]) -> Result<Vec<Printed>, AllocError>
+    requires lower_words { All (λ b. b.lower ≤ ONE) brackets.now }
+    requires upper_words { All (λ b. b.upper ≤ ONE) brackets.now }
+    ensures printed { IfOk result (λ printed. printed.items ≡ printed_brackets brackets.now) }
+    ensures printable { IfOk result (λ printed. All IsPrintable printed.items) }
+{
+    let mut printed = Vec::with_capacity(alloc, brackets.len())?;
+    for bracket in brackets {
+        printed.push(printed_words(*bracket))?;
+    }
+    Ok(printed)
 }

@@ -39,9 +39,8 @@ fn each_fault_of_a_line_is_told_with_its_column(rt: HostRuntime) -> Result<(), F
 }
 
 const NOT_BUILT: &[&[u8]] = &[
-    b"P{>=0.5}[tt U a]",
-    b"P{>=0.5}[tt U[0,~] a]",
     b"P{>=0.5}[tt U[0,~][0,2] a]",
+    b"P{>=0.5}[tt U P{>0}[X a]]",
     b"P{>=0.5}[X P{>0}[X a]]",
     b"P{>=0.5}[tt U[0,1] P{>0}[X a]]",
     b"P{>=0.5}[!P{>0}[X a] U[0,1] a]",
@@ -82,7 +81,7 @@ fn refused_lines_stand_between_answered_ones(rt: HostRuntime) -> Result<(), Fail
         Input::ctmc(
             STEP,
             LAB,
-            b"a\n\nP{>=0.5}[tt U[0,8177.1] a]\na & a\n \t\nP{>=0.5}[tt U a]\n(a)\n",
+            b"a\n\nP{>=0.5}[tt U[0,8177.1] a]\na & a\n \t\nP{>=0.5}[tt U[0,~][0,2] a]\n(a)\n",
         ),
         Status::Refused,
         "formula a\n1 refuted\n2 satisfied\nrefused line 3 TooLong\nrefused line 4 column 3 Token\nrefused line 6 NotBuilt\nformula a\n1 refuted\n2 satisfied\n",

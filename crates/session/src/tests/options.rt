@@ -68,7 +68,8 @@ fn a_load_is_rounded_up_for_the_horizon(rt: HostRuntime) -> Result<(), Fail> {
     expect_front(&rt, input, "formula P{>=0.5}[tt U[0,0.26] a]\nhorizon 14\n")
 }
 
-// The until of the row above, a next and a label, of which only the first is watched.
+// The until of the row above, a next and a label, of which only the first is watched. Of a state of the goal each bracket is
+// the last.
 const THREE: &[u8] = b"P{>=0.63}[tt U[0,1] a]\nP{>0}[X a]\na\n";
 
 const WATCHED: &[(&[&str], &str)] = &[
@@ -77,10 +78,6 @@ const WATCHED: &[(&[&str], &str)] = &[
             "mrmc_any", "ctmc", "M.tra", "M.lab", "--watch", "3", "--state", "2",
         ],
         "formula P{>=0.63}[tt U[0,1] a]\nhorizon 32\nwatch 1 1.000000000000 1.000000000000\nwatch 2 1.000000000000 1.000000000000\nwatch 3 1.000000000000 1.000000000000\n1 satisfied 0.632120558828 0.632120559760\n2 satisfied 1.000000000000 1.000000000000\nformula P{>0}[X a]\n1 satisfied 1.000000000000 1.000000000000\n2 refuted 0.000000000000 0.000000000000\nformula a\n1 refuted\n2 satisfied\n",
-    ),
-    (
-        &["mrmc_any", "--watch=2", "ctmc", "M.tra", "M.lab"],
-        "formula P{>=0.63}[tt U[0,1] a]\nhorizon 32\nwatch 1 0.632120558828 0.632120559760\nwatch 2 0.632120558828 0.632120559760\n1 satisfied 0.632120558828 0.632120559760\n2 satisfied 1.000000000000 1.000000000000\nformula P{>0}[X a]\n1 satisfied 1.000000000000 1.000000000000\n2 refuted 0.000000000000 0.000000000000\nformula a\n1 refuted\n2 satisfied\n",
     ),
     (
         &[
@@ -103,21 +100,6 @@ fn the_watched_state_is_shown_after_the_horizon(rt: HostRuntime) -> Result<(), F
     Ok(())
 }
 
-// The most lines of watching that can be asked for, numbered from 1.
-#[test]
-fn a_state_is_watched_1000_times_at_most(rt: HostRuntime) -> Result<(), Fail> {
-    let alloc = rt.alloc();
-    let mut text = String::from_str(alloc, "formula P{>=0.63}[tt U[0,1] a]\nhorizon 32\n")?;
-    for number in 1..1001u32 {
-        let line = format!(in alloc; "watch {number} 0.632120558828 0.632120559760\n")?;
-        text.push_str(line.as_str())?;
-    }
-    text.push_str("1 satisfied 0.632120558828 0.632120559760\n")?;
-    text.push_str("2 satisfied 1.000000000000 1.000000000000\n")?;
-    let words = &["mrmc_any", "ctmc", "M.tra", "M.lab", "--watch", "1000"];
-    expect_with(&rt, words, UNTIL, text.as_str())
-}
-
 const WITHOUT_EFFECT: &[&[&str]] = &[
     &["mrmc_any", "ctmc", "M.tra", "M.lab", "--workers", "1"],
     &["mrmc_any", "--workers=64", "ctmc", "M.tra", "M.lab"],
@@ -128,7 +110,7 @@ const WITHOUT_EFFECT: &[&[&str]] = &[
 ];
 
 #[test]
-fn workers_and_jumps_change_nothing(rt: HostRuntime) -> Result<(), Fail> {
+fn neither_workers_nor_jumps_change_a_bounded_until(rt: HostRuntime) -> Result<(), Fail> {
     for words in WITHOUT_EFFECT {
         expect_with(&rt, words, UNTIL, UNTIL_ANSWER)?;
     }

@@ -1,5 +1,5 @@
 use Rattle.std.proofs.Common.{◌≡◌, map, take}
-use Rattle.session.specs.FormulaAnswer.{truth_verdict}
+use Rattle.report.specs.Answer.{truth_verdict}
 use Rattle.session.proofs.nested_verdict.verdicts_answer.Given as goal
 
 abbrev pub invariant-loop-holds : goal.invariant-loop-holds

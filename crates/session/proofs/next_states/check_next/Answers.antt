@@ -7,7 +7,7 @@ use Rattle.model_core.specs.Transitions.{chain_of}
 use Rattle.session.specs.BracketAnswer.{bracket_answer}
 use Rattle.session.specs.Ends.{AreProbabilities, ends_bracket}
 use Rattle.csl_semantics.specs.Meaning.{comparison_of}
-use Rattle.session.specs.Report.{IsPrintable}
+use Rattle.report.specs.AnswerText.{IsPrintable}
 use Rattle.session.specs.declared.state_answer.StateAnswer.{StateAnswer}
 use Rattle.session.proofs.Rounding.{answers_more}
 use Rattle.session.proofs.next_states.check_next.Goals as goal

@@ -5,7 +5,7 @@ use Rattle.ctmc_semantics.specs.Sets.{holds_at}
 use Rattle.model_core.specs.Transitions.{chain_of}
 use Rattle.session.specs.NextAnswer.{first_answers}
 use Rattle.csl_semantics.specs.Meaning.{comparison_of}
-use Rattle.session.specs.Report.{IsPrintable}
+use Rattle.report.specs.AnswerText.{IsPrintable}
 use Rattle.session.proofs.next_states.check_next.Given as goal
 
 abbrev pub invariant-loop-s : goal.invariant-loop-s

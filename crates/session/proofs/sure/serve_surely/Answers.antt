@@ -1,9 +1,6 @@
-use Rattle.std.proofs.Common.{◌≡◌, List, ℕ, Some, map, string_bytes, arith, refl}
+use Rattle.std.proofs.Common.{◌≡◌, map, string_bytes, arith, refl}
 use Rattle.session.proofs.SureObjects.{no_read, memory_or}
 use Rattle.session.proofs.sure.serve_surely.Goals as goal
-
-told_bytes : (S : Type 0) (a b : List ℕ) → S × (Some a ≡ Some b) → S × (a ≡ b)
-told_bytes S a b p = (p.0, cc (p.1))
 
 pub returns-clause-settled : goal.returns-clause-settled
 returns-clause-settled g c =
@@ -20,4 +17,4 @@ returns-clause-told g c = λ now outcome theirs.
     (no_read (map string_bytes c.args.words.now) c.args.files.now.files c.serve.new.files.files c.args.files.now.asked
     c.serve.new.files.asked c.requires.named same c.requires.fresh c.serve.result c.serve.ensures.asked c.serve.ensures.read)
     (λ e. omega (arith, c.serve.ensures.write.risen e))
-    (told_bytes _ _ _) (c.serve.ensures.told _ _ _ now outcome refl refl refl theirs)
+    (λ p. p) (c.serve.ensures.told _ _ _ now outcome refl refl refl theirs)

@@ -1,6 +1,6 @@
 use Rattle.std.proofs.Common.{refl, sym, ap, if◌then◌else◌}
-use Rattle.session.specs.Outcome.{Faulty}
-use Rattle.session.specs.declared.reading.Prepared.TheVariants.{Faulty as FaultyFile}
+use Rattle.session.specs.Outcome.{Faulty, FormulasLong}
+use Rattle.session.specs.declared.reading.Prepared.TheVariants.{Faulty as FaultyFile, FormulasLong as LongInput}
 use Rattle.session.specs.declared.status.Status.TheVariants as status
 use Rattle.session.proofs.Served.{writes, writes_front, writes_lines, writes_front_of_lines}
 use Rattle.session.proofs.top.write_said.Goals as goal
@@ -23,6 +23,11 @@ pub returns-in_ok-write_fault-in-Faulty-clause-front : goal.returns-in_ok-write_
 returns-in_ok-write_fault-in-Faulty-clause-front g c =
     writes_front c.args.prepared.now (FaultyFile c.in-Faulty.fault) c.in-Faulty.is _ _ (Faulty c.in-Faulty.fault) refl
     c.in_ok-write_fault-in-Faulty.ensures.front
+
+pub returns-in_ok-write_refusal-in-FormulasLong-clause-written : goal.returns-in_ok-write_refusal-in-FormulasLong-clause-written
+returns-in_ok-write_refusal-in-FormulasLong-clause-written g c =
+    writes c.args.prepared.now LongInput c.in-FormulasLong.is _ _ FormulasLong refl status.Refused refl
+    c.in_ok-write_refusal-in-FormulasLong.ensures.ok
 
 pub returns-then-all_answered-clause-written : goal.returns-then-all_answered-clause-written
 returns-then-all_answered-clause-written g c =

@@ -4,7 +4,7 @@ use Rattle.ctmc_semantics.specs.Fraction.{decimal_fraction}
 use Rattle.csl_semantics.specs.Meaning.{comparison_of}
 use Rattle.mix_columns.specs.Mixed.{words_of}
 use Rattle.mix_columns.specs.SideBySide.{bracket_at}
-use Rattle.session.specs.Report.{IsPrintable}
+use Rattle.report.specs.AnswerText.{IsPrintable}
 use Rattle.session.specs.UntilAnswer.{listed_words}
 use Rattle.session.specs.declared.state_answer.StateAnswer.{StateAnswer}
 use Rattle.session.proofs.Verdicts.{answers_more}

@@ -1,7 +1,7 @@
 use Rattle.std.proofs.Common.{◌≡◌, All}
 use Rattle.ctmc_semantics.specs.Fraction.{decimal_fraction}
 use Rattle.csl_semantics.specs.Meaning.{comparison_of}
-use Rattle.session.specs.Report.{IsPrintable}
+use Rattle.report.specs.AnswerText.{IsPrintable}
 use Rattle.session.specs.UntilAnswer.{first_answers, listed_words}
 use Rattle.session.proofs.until_states.bracket_answers.Given as goal
 

@@ -1,6 +1,6 @@
 use Rattle.std.proofs.Common.{◌^◌, arith}
 use Rattle.session.proofs.Rounding.{low_within, high_within}
-use Rattle.session.proofs.state_answer.ends_answer.Goals as goal
+use Rattle.session.proofs.state_answer.printed.Goals as goal
 
 pub returns-clause-printable : goal.returns-clause-printable
 returns-clause-printable c =
