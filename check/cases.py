@@ -3,15 +3,16 @@ from fractions import Fraction
 from typing import NamedTuple, Optional
 
 from changed_text import changed_bytes, odd_end_of_line, odd_end_of_text
-from command import RANGES, Options
+from command import RANGES, Options, options_of
 from damage import DAMAGES, two_damages
 from decimals import Decimal, decimal_of_units
-from draw_formulas import EVERYWHERE, draw_live, draw_until, has_barred_way, has_choice, has_way, spelled_formula, until_of
-from draw_inputs import OTHER_INPUTS, many_lines, next_line, one_line, plain_line, until_line
+from draw_formulas import (EVERYWHERE, draw_live, draw_unbounded, draw_within, has_barred_way, has_choice, has_way, spelled_formula,
+                           unsettled_states, until_of)
+from draw_inputs import OTHER_INPUTS, many_lines, next_line, one_line, plain_line, unbounded_line, unbuilt_line, until_line
 from draw_lines import COMPARISONS
 from draw_models import LINES_OF, Draft, draw_draft, draw_marks, draw_names, laid_out, limit_model
-from draw_words import (FILE_NAMES, NO_COMMANDS, NO_FILE_NAMES, NO_OPTIONS, OPTION_WRONGS, WORDS, draw_options, ends_of_range,
-                        words_of_command)
+from draw_words import (FILE_NAMES, NO_COMMANDS, NO_FILE_NAMES, NO_OPTIONS, OPTION_WRONGS, WORDS, draw_jumps, draw_options,
+                        draw_workers, ends_of_range, words_of_command)
 from draws import Draws
 from expected import MOST_JUMPS, MOST_WORDS
 from language import Formula
@@ -71,8 +72,7 @@ def with_options(draws, case, given):
 def case_of(draws, model, draw_input, files=None, given=None):
     """The command with any options over the model, or with these, and an input that is drawn for it."""
     given = draw_options(draws, model.chain.states) if given is None else given
-    bits = given.get(b"--bits", Options().bits)
-    case = plain_case(draws, model.texts, draw_input(draws, model, bits), files, ODD_NAMES + DASHED_NAMES)
+    case = plain_case(draws, model.texts, draw_input(draws, model, options_of(given)), files, ODD_NAMES + DASHED_NAMES)
     return with_options(draws, case, given)
 
 
@@ -95,25 +95,69 @@ def next_case(draws):
     return case_of(draws, model, one_line(next_line))
 
 
-def until_case(draws, states, greatest_load):
+def until_case(draws, states, draw_formula, given=None):
+    """The watched state is mostly one whose bracket is narrowed by jumps; that of the others is known before."""
     model = draw_model_with(draws, states, draws.mostly(has_barred_way, has_way))
-    return case_of(draws, model, one_line(lambda draws, model, bits: spelled_formula(draws, draw_until(draws, model, greatest_load, bits))))
+    given = draw_options(draws, states) if given is None else given
+    formula = draw_formula(draws, model, options_of(given))
+    unsettled = unsettled_states(model, formula, options_of(given))
+    if b"--state" in given and unsettled:
+        given = {**given, b"--state": draws.mostly(draws.one_of(unsettled), given[b"--state"])}
+    return case_of(draws, model, one_line(lambda draws, model, options: spelled_formula(draws, formula)), given=given)
 
 
 def small_until(draws):
-    return until_case(draws, draws.mostly(draws.between(3, 8), 1, 2), draws.mostly(4, 1, 30))
+    return until_case(draws, draws.mostly(draws.between(3, 8), 1, 2), draw_within(draws.mostly(4, 1, 30)))
 
 
 def wide_until(draws):
-    return until_case(draws, draws.between(7, 40), 20)
+    return until_case(draws, draws.between(7, 40), draw_within(20))
 
 
 def long_until(draws):
-    return until_case(draws, draws.between(1, 3), draws.between(100, 1000))
+    return until_case(draws, draws.between(1, 3), draw_within(draws.between(100, 1000)))
 
 
-def some_line(draws, model, bits):
-    return draws.one_of([next_line, until_line])(draws, model, bits)
+def unbounded_case(draws, states):
+    """With the number of jumps given in half of the draws and more."""
+    given = draw_options(draws, states)
+    return until_case(draws, states, draw_unbounded, draws.one_of([given, {**given, b"--jumps": draw_jumps(draws, states)}]))
+
+
+def small_unbounded_until(draws):
+    return unbounded_case(draws, draws.mostly(draws.between(3, 8), 1, 2))
+
+
+def wide_unbounded_until(draws):
+    return unbounded_case(draws, draws.between(7, 40))
+
+
+def most_jumps(draws):
+    """An until without a bound that is looked at up to the greatest number of jumps."""
+    states = draws.between(1, 4)
+    return until_case(draws, states, draw_unbounded, {**draw_options(draws, states), b"--jumps": MOST_JUMPS})
+
+
+def raced_until(draw_states):
+    """An until over several blocks of 64 states, so that more than one worker has something to do; often with many watch lines."""
+    def case(draws):
+        states = draw_states(draws)
+        given = {**draw_options(draws, states), b"--workers": draw_workers(draws), b"--watch": draws.one_of([0, 3, 100, 1000])}
+        draw_formula = draws.one_of([draw_within(40), draw_unbounded])
+        return until_case(draws, states, draw_formula, {**given, b"--state": draws.between(1, states)})
+    return case
+
+
+def few_blocks(draws):
+    return draws.one_of([64, 65, 128, 129, draws.between(130, 260)])
+
+
+def many_blocks(draws):
+    return draws.between(1000, 2000)
+
+
+def some_line(draws, model, options):
+    return draws.one_of([next_line, until_line, unbounded_line])(draws, model, options)
 
 
 def greatest_sums(draws):
@@ -132,19 +176,26 @@ def chain_at_rate(draws, states, rate):
     return spell_model(draws, Draft(states, transitions, names, marks, []))
 
 
-def until_at_horizon(draws, states, last, beyond):
-    """An until whose horizon is `last`, or one more."""
-    # A half of a whole number, divided by one of these rates, has at most three decimals.
-    rate = draws.one_of([Decimal(1, 0), Decimal(2, 0), Decimal(5, 0), Decimal(5, 1), Decimal(1, 1), Decimal(1, 3)])
+# A half of a whole number, divided by one of these rates, has at most three decimals.
+RATES = [Decimal(1, 0), Decimal(2, 0), Decimal(5, 0), Decimal(5, 1), Decimal(1, 1), Decimal(1, 3)]
 
-    def draw_line(draws, model, bits):
+
+def until_at_horizon(draws, states, last, beyond):
+    """An until within a time whose horizon is `last`, or one more."""
+    rate = draws.one_of(RATES)
+
+    def draw_line(draws, model, options):
         decimals = draws.between(3, 10)
-        units = int(Fraction(last - bits, 2) / rate.fraction() * 10 ** decimals) + (1 if beyond else 0)
-        live, goal = draws.mostly(EVERYWHERE, draw_live(draws, model.labels.names)), Formula("label", (draws.one_of(model.labels.names),))
-        formula = until_of(draws.one_of(COMPARISONS), Decimal(draws.below(2), 0), live, decimal_of_units(units, decimals), goal)
-        return spelled_formula(draws, formula)
+        units = int(Fraction(last - options.bits, 2) / rate.fraction() * 10 ** decimals) + (1 if beyond else 0)
+        return line_at_limit(draws, model, decimal_of_units(units, decimals))
     given = {**draw_options(draws, states), **draws.one_of([{}, {b"--bits": draws.one_of(RANGES[b"--bits"])}])}
     return case_of(draws, chain_at_rate(draws, states, rate), one_line(draw_line), given=given)
+
+
+def line_at_limit(draws, model, time):
+    names = model.labels.names
+    live, goal = draws.mostly(EVERYWHERE, draw_live(draws, names)), Formula("label", (draws.one_of(names),))
+    return spelled_formula(draws, until_of(draws.one_of(COMPARISONS), Decimal(draws.below(2), 0), live, time, goal))
 
 
 def longest_until(draws):
@@ -162,6 +213,37 @@ def until_of_most_words(most_states=False, beyond=False):
         states = MOST_STATES if most_states else draws.mostly(draws.between(512, 3000), 512)
         return until_at_horizon(draws, states, MOST_WORDS // states - 1, beyond)
     return case
+
+
+def large_case(draws, states, line, jumps):
+    """Over so many states, with so many jumps, or with this option not given where it is None."""
+    given = {name: value for name, value in draw_options(draws, states).items() if name != b"--jumps"}
+    given.update({} if jumps is None else {b"--jumps": jumps})
+    return case_of(draws, chain_at_rate(draws, states, draws.one_of(RATES)), one_line(line), given=given)
+
+
+def unbounded_line_at_limit(draws, model, options):
+    return line_at_limit(draws, model, None)
+
+
+def unbounded_until_of_most_words(most_states=False, beyond=False):
+    """The same for an until without a bound, where the number of jumps is the option's."""
+    def case(draws):
+        states = MOST_STATES if most_states else draws.one_of([MOST_WORDS // MOST_JUMPS, draws.between(513, 3000)])
+        return large_case(draws, states, unbounded_line_at_limit, MOST_WORDS // states - 1 + beyond)
+    return case
+
+
+def default_jumps_at_most_words(beyond=False):
+    """The same where the option isn't given: the number of states is at its limit, or past it by one."""
+    def case(draws):
+        return large_case(draws, MOST_WORDS // (Options().jumps + 1) + beyond, unbounded_line_at_limit, None)
+    return case
+
+
+def unbuilt_and_too_large(draws):
+    """What isn't built is told before the tables are looked at."""
+    return large_case(draws, MOST_STATES, unbuilt_line, MOST_JUMPS)
 
 
 # Other formula inputs.
@@ -219,7 +301,7 @@ def file_of_size(file, size):
 def sound_case(draws, files=None):
     """A plain case over a small sound model."""
     model = draw_model(draws, 2)
-    return plain_case(draws, model.texts, one_line(some_line)(draws, model, Options().bits), files)
+    return plain_case(draws, model.texts, one_line(some_line)(draws, model, Options()), files)
 
 
 def files_swapped(draws):
@@ -276,8 +358,10 @@ def end_of_range(name, value):
     def case(draws):
         states = value if name == b"--state" else 2
         model = draw_model(draws, 2) if states < MOST_STATES else chain_at_rate(draws, states, Decimal(1, 0))
-        drawn = plain_case(draws, model.texts, one_line(some_line)(draws, model, Options().bits))
-        return with_options(draws, drawn, {**draw_options(draws, 2), name: value})
+        line = unbounded_line if name == b"--jumps" else some_line
+        given = {**draw_options(draws, 2), name: value}
+        drawn = plain_case(draws, model.texts, one_line(line)(draws, model, options_of(given)))
+        return with_options(draws, drawn, given)
     return case
 
 
@@ -338,6 +422,16 @@ def answer_kinds():
     yield "until a jump too long", [too_long_until] * 4
     yield "largest until", [until_of_most_words(most_states=True), until_of_most_words()]
     yield "until a jump too large", [until_of_most_words(most_states=True, beyond=True), until_of_most_words(beyond=True)]
+    yield "small unbounded until", [small_unbounded_until] * 60
+    yield "wide unbounded until", [wide_unbounded_until] * 5
+    yield "unbounded until of most jumps", [most_jumps] * 3
+    yield "raced until", [raced_until(few_blocks)] * 12
+    yield "raced until over many states", [raced_until(many_blocks)] * 3
+    yield "largest unbounded until", [unbounded_until_of_most_words(most_states=True), unbounded_until_of_most_words(),
+                                      default_jumps_at_most_words()]
+    yield "unbounded until a jump too large", [unbounded_until_of_most_words(most_states=True, beyond=True),
+                                               *[unbounded_until_of_most_words(beyond=True)] * 2, default_jumps_at_most_words(beyond=True)]
+    yield "not built and too large", [unbuilt_and_too_large]
 
 
 def input_kinds():

@@ -79,4 +79,9 @@ def read_options(given):
         if name in values or value not in RANGES[name]:
             raise NoCommand
         values[name] = value
+    return options_of(values)
+
+
+def options_of(values):
+    """The options from the values of those that are given, by their names as words."""
     return Options(**{name[2:].decode(): value for name, value in values.items()})

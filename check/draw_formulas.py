@@ -4,7 +4,7 @@ from fractions import Fraction
 
 from decimals import Decimal, decimal_of_units
 from draw_lines import COMPARISONS, PLAIN_KINDS, draw_leaf, draw_tree, line_of, threshold, tokens_of
-from exact import greatest_exit_rate, next_probability
+from exact import greatest_exit_rate, next_probability, reaching
 from language import Formula
 from meaning import satisfying
 from rounded import ONE, until_words
@@ -55,19 +55,35 @@ def has_choice(model):
     return any(0 < probability < 1 for _, probability in next_probabilities(model, labels))
 
 
-# Untils with a time bound.
+# Untils within a time, and without a bound where in place of the time there is None.
 
-def draw_until(draws, model, greatest_load, bits):
-    """An until whose load is at most `greatest_load`, mostly with its threshold in a state's bracket or beside one of its ends."""
-    (live, goal), time = draw_way(draws, model), draw_time(draws, model.chain, greatest_load)
-    words = until_words(model.chain, states_of(model, live), states_of(model, goal), time, bits)
+def draw_until(draws, model, time, options):
+    """An until, mostly with its threshold in a state's bracket or beside one of its ends."""
+    live, goal = draw_way(draws, model)
+    words = until_words(model.chain, states_of(model, live), states_of(model, goal), time, options)
     words = draws.mostly([pair for pair in words if 0 < pair[0] < ONE], words) or words
     units = draws.one_of([at_last_bit, inside, inside, beside_printed, any_units])(draws, words)
     return until_of(draws.one_of(COMPARISONS), threshold_of(units), live, time, goal)
 
 
+def draw_within(greatest_load):
+    """Draws an until within a time in which at most so many jumps are expected."""
+    return lambda draws, model, options: draw_until(draws, model, draw_time(draws, model.chain, greatest_load), options)
+
+
+def draw_unbounded(draws, model, options):
+    return draw_until(draws, model, None, options)
+
+
+def unsettled_states(model, formula, options):
+    """The states, from 1, of which an until's two words differ."""
+    _, _, live, bound, goal = formula.parts
+    words = until_words(model.chain, states_of(model, live), states_of(model, goal), bound and bound[1], options)
+    return [state for state, (lower, upper) in enumerate(words, 1) if lower < upper]
+
+
 def until_of(comparison, limit, live, time, goal):
-    return Formula("until", (comparison, limit, live, ("time", time), goal))
+    return Formula("until", (comparison, limit, live, None if time is None else ("time", time), goal))
 
 
 def draw_way(draws, model):
@@ -108,16 +124,7 @@ def is_entered(chain, live, goal):
 def is_barred(chain, live, goal):
     """Whether a live state leads to one that is neither live nor of the goal, but from which the goal can be reached."""
     barred = {target for state in live - goal for target, _ in chain.rows[state]} - live - goal
-    return bool(barred) and not barred.isdisjoint(reaching(chain, goal))
-
-
-def reaching(chain, goal):
-    """The states from which the goal can be reached."""
-    found, grew = set(goal), True
-    while grew:
-        more = {state for state, row in enumerate(chain.rows) if state not in found and any(target in found for target, _ in row)}
-        found, grew = found | more, bool(more)
-    return found
+    return bool(barred) and not barred.isdisjoint(reaching(chain, frozenset(range(chain.states)), goal))
 
 
 # Thresholds and times.
@@ -183,22 +190,18 @@ def time_at_most(draws, time):
 # Formulas that aren't built: each is but one step from one that is.
 
 def draw_operator(draws, names):
-    """A next, or an until with a time bound, of any kind."""
+    """A next, or an until within a time or without a bound, of any kind."""
     front = draws.one_of(COMPARISONS), threshold(draws)
     if draws.chance(1, 2):
         return Formula("next", (*front, draw_plain(draws, names)))
-    return until_of(*front, draw_plain(draws, names), Decimal(draws.below(10), 0), draw_plain(draws, names))
-
-
-def draw_bound(draws):
-    """No bound at all, or one on the reward."""
-    return draws.one_of([None, ("reward", Decimal(draws.below(100), 0))])
+    time = draws.one_of([Decimal(draws.below(10), 0), None])
+    return until_of(*front, draw_plain(draws, names), time, draw_plain(draws, names))
 
 
 def operator_within(draws, names):
     """An operator below another one's next or until; with it also a time that alone would be too long."""
     inner, other, front = draw_operator(draws, names), draw_plain(draws, names), (draws.one_of(COMPARISONS), threshold(draws))
-    time = draws.one_of([Decimal(1, 0), Decimal(10 ** 17, 0)])
+    time = draws.one_of([Decimal(1, 0), Decimal(10 ** 17, 0), None])
     return draws.one_of([Formula("next", (*front, inner)), until_of(*front, inner, time, other), until_of(*front, other, time, inner)])
 
 
@@ -207,9 +210,11 @@ def operator_below_connective(draws, names):
     return draws.one_of([Formula("not", (inner,)), Formula("and", (inner, other)), Formula("or", (other, inner))])
 
 
-def other_bound(draws, names):
-    operands = draw_plain(draws, names), draw_plain(draws, names)
-    return Formula("until", (draws.one_of(COMPARISONS), threshold(draws), operands[0], draw_bound(draws), operands[1]))
+def bound_on_reward(draws, names):
+    """The rewards may be 0, or none may be given."""
+    live, goal = draw_plain(draws, names), draw_plain(draws, names)
+    bound = "reward", draws.one_of([Decimal(draws.below(100), 0), threshold(draws), Decimal(10 ** 17, 0)])
+    return Formula("until", (draws.one_of(COMPARISONS), threshold(draws), live, bound, goal))
 
 
 def operator_deep_below(draws, names):
@@ -219,4 +224,4 @@ def operator_deep_below(draws, names):
 
 
 def draw_unbuilt(draws, names):
-    return draws.one_of([operator_within, operator_below_connective, other_bound, operator_deep_below])(draws, names)
+    return draws.one_of([operator_within, operator_below_connective, bound_on_reward, operator_deep_below])(draws, names)

@@ -1,11 +1,12 @@
 """Formula inputs: lines of every kind, blank ones and `quit` among them, in any layout; and inputs at the limits of their length.
 
-Each is drawn for a model and a number of bits.
+Each is drawn for a model and the command's options.
 """
 from changed_text import changed_bytes
 from command import Options
 from decimals import Decimal, canonical_text
-from draw_formulas import draw_next, draw_operator, draw_plain, draw_unbuilt, draw_until, spelled_formula, until_of
+from draw_formulas import (draw_next, draw_operator, draw_plain, draw_unbounded, draw_unbuilt, draw_within, spelled_formula,
+                           until_of)
 from draw_lines import COMPARISONS, draw_leaf, draw_line, nested, threshold
 from draw_models import blank_lines
 from draw_numbers import no_number, spelled, too_big, too_fine
@@ -32,46 +33,50 @@ FORMS_AN_INPUT = 8
 QUITS = [b"quit", b"quit", b" quit", b"quit\t", b"\t quit  "]
 
 
-# Lines of one kind. Each takes draws, the model and the bits.
+# Lines of one kind. Each takes draws, the model and the options.
 
-def plain_line(draws, model, bits):
+def plain_line(draws, model, options):
     return spelled_formula(draws, draw_plain(draws, model.labels.names, 12))
 
 
-def next_line(draws, model, bits):
+def next_line(draws, model, options):
     return spelled_formula(draws, draw_next(draws, model))
 
 
-def until_line(draws, model, bits):
-    return spelled_formula(draws, draw_until(draws, model, 4, bits))
+def until_line(draws, model, options):
+    return spelled_formula(draws, draw_within(4)(draws, model, options))
 
 
-def unbuilt_line(draws, model, bits):
+def unbounded_line(draws, model, options):
+    return spelled_formula(draws, draw_unbounded(draws, model, options))
+
+
+def unbuilt_line(draws, model, options):
     return spelled_formula(draws, draw_unbuilt(draws, model.labels.names))
 
 
-def drawn_line(draws, model, bits):
+def drawn_line(draws, model, options):
     """A line of the language, in half of the draws a damaged one."""
     return draw_line(draws, draws.below(40), model.labels.names)
 
 
-def too_long_line(draws, model, bits):
+def too_long_line(draws, model, options):
     """An until past the limit of jumps, where some rate isn't 0."""
     live, goal = draw_plain(draws, model.labels.names), draw_plain(draws, model.labels.names)
     return spelled_formula(draws, until_of(draws.one_of(COMPARISONS), threshold(draws), live, Decimal(10 ** 18 - 1, draws.below(3)), goal))
 
 
-def changed_line(draws, model, bits):
+def changed_line(draws, model, options):
     """A line changed in a way that knows nothing of the language."""
-    return changed_bytes(draws, draws.one_of([plain_line, next_line, until_line])(draws, model, bits))
+    return changed_bytes(draws, draws.one_of(ANSWERED_LINES)(draws, model, options))
 
 
-def number_line(draws, model, bits):
+def number_line(draws, model, options):
     """A threshold or a time that is no number, or beyond the limits; or a threshold above 1."""
     tree = draw_operator(draws, model.labels.names)
     comparison, limit, *path = tree.parts
     word = draws.one_of([no_number, too_fine, too_big, above_one])(draws)
-    if tree.kind == "until" and draws.chance(1, 2):
+    if tree.kind == "until" and path[1] is not None and draws.chance(1, 2):
         time = b"U[0,%s]" % canonical_text(path[1][1])
         return canonical_line(tree).replace(time, b"U[0,%s]" % word, 1)
     return canonical_line(tree).replace(comparison + canonical_text(limit), comparison + word, 1)
@@ -81,7 +86,8 @@ def above_one(draws):
     return spelled(draws, draws.one_of([Decimal(2, 0), Decimal(10 ** 17 + 1, 17), Decimal(10 ** 18 - 1, 0), Decimal(101, 2)]))
 
 
-LINES = [plain_line, next_line, until_line, unbuilt_line, drawn_line, too_long_line, changed_line, number_line]
+ANSWERED_LINES = [plain_line, next_line, until_line, unbounded_line]
+LINES = [*ANSWERED_LINES, unbuilt_line, drawn_line, too_long_line, changed_line, number_line]
 
 
 # Lines at the limit of their length.
@@ -113,7 +119,7 @@ def long_chain(draws, model, size):
 
 
 def any_line_filled(draws, model, size):
-    return filled(draws, draws.one_of(LINES[:4])(draws, model, Options().bits), size)
+    return filled(draws, draws.one_of([*ANSWERED_LINES, unbuilt_line])(draws, model, Options()), size)
 
 
 def nested_line(draws, model):
@@ -142,27 +148,27 @@ def with_quit(draws, lines):
     return [*lines[:place], draws.one_of(QUITS), *lines[place:]]
 
 
-def draw_lines_of(draws, model, bits, kinds, count):
-    lines = [draws.one_of(kinds)(draws, model, bits) for _ in range(count)]
+def draw_lines_of(draws, model, options, kinds, count):
+    lines = [draws.one_of(kinds)(draws, model, options) for _ in range(count)]
     return with_quit(draws, lines) if draws.chance(1, 4) else lines
 
 
 def one_line(make_line):
-    return lambda draws, model, bits: laid_out_lines(draws, [make_line(draws, model, bits)])
+    return lambda draws, model, options: laid_out_lines(draws, [make_line(draws, model, options)])
 
 
 def many_lines(kinds, most):
-    def draw_input(draws, model, bits):
-        return laid_out_lines(draws, draw_lines_of(draws, model, bits, kinds, draws.between(2, most)))
+    def draw_input(draws, model, options):
+        return laid_out_lines(draws, draw_lines_of(draws, model, options, kinds, draws.between(2, most)))
     return draw_input
 
 
-def changed_input(draws, model, bits):
-    return changed_bytes(draws, many_lines(LINES, 5)(draws, model, bits))
+def changed_input(draws, model, options):
+    return changed_bytes(draws, many_lines(LINES, 5)(draws, model, options))
 
 
 def other_forms(forms):
-    def draw_input(draws, model, bits):
+    def draw_input(draws, model, options):
         return laid_out_lines(draws, [form.replace(b"a", draws.one_of(model.labels.names or [b"a"])) for form in forms])
     return draw_input
 
@@ -174,11 +180,11 @@ def long_blanks(draws):
 
 def nothing_asked(front):
     """What `front` draws, and then, where it ends the input, lines that aren't looked at."""
-    def draw_input(draws, model, bits):
+    def draw_input(draws, model, options):
         text = front(draws)
         if b"quit" not in text:
             return text
-        return text + draws.one_of([b"", b"\n" + many_lines(LINES, 3)(draws, model, bits), b"\n((\n", b"\r\n\xff\xff"])
+        return text + draws.one_of([b"", b"\n" + many_lines(LINES, 3)(draws, model, options), b"\n((\n", b"\r\n\xff\xff"])
     return draw_input
 
 
@@ -195,13 +201,13 @@ NOTHING = [
 
 def lines_of_size(make_line, size):
     """A line of so many bytes, and others round it."""
-    def draw_input(draws, model, bits):
+    def draw_input(draws, model, options):
         line = make_line(draws, model, size)
-        return laid_out_lines(draws, draws.shuffled([line, *(plain_line(draws, model, bits) for _ in range(draws.below(3)))]))
+        return laid_out_lines(draws, draws.shuffled([line, *(plain_line(draws, model, options) for _ in range(draws.below(3)))]))
     return draw_input
 
 
-def nested_lines(draws, model, bits):
+def nested_lines(draws, model, options):
     return laid_out_lines(draws, [nested_line(draws, model) for _ in range(draws.between(1, 4))])
 
 
@@ -220,13 +226,13 @@ def filled_behind_quit(draws, model, text, rest):
 
 
 def filled_with_thousands(draws, model, text, rest):
-    line = plain_line(draws, model, Options().bits)[:300] + b"\n"
+    line = plain_line(draws, model, Options())[:300] + b"\n"
     return line * draws.between(1000, 2000) + b"\n" * rest
 
 
 def input_of_size(fill, size):
-    def draw_input(draws, model, bits):
-        text = many_lines(LINES, 4)(draws, model, bits)
+    def draw_input(draws, model, options):
+        text = many_lines(LINES, 4)(draws, model, options)
         return fill(draws, model, text, max(0, size - len(text)))[:size].ljust(size)
     return draw_input
 

@@ -22,11 +22,25 @@ def draw_options(draws, states):
     for name, values in RANGES.items():
         if draws.chance(1, 5):
             given[name] = draws.one_of([values[0], values[-1], draws.one_of(values), draws.one_of(values)])
+    if draws.chance(1, 2):
+        given[b"--workers"] = draw_workers(draws)
+    if b"--jumps" in given:
+        given[b"--jumps"] = draw_jumps(draws, states)
     if b"--watch" in given:
         given[b"--watch"] = draws.mostly(draws.below(6), given[b"--watch"])
     if b"--state" in given or b"--watch" in given:
         given[b"--state"] = draws.between(1, states)
     return given
+
+
+def draw_workers(draws):
+    return draws.one_of([1, 2, 3, 4, 64, draws.one_of(RANGES[b"--workers"])])
+
+
+def draw_jumps(draws, states):
+    """Few jumps, or any number where the states are few, since what must come is computed here too."""
+    most = RANGES[b"--jumps"][-1] if states <= 4 else 1000
+    return draws.mostly(draws.between(2, 40), 1, most, draws.between(1, most))
 
 
 def option_words(draws, name, value):

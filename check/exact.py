@@ -1,4 +1,5 @@
 """The exact level: probabilities of chains as fractions, with no rounding."""
+import collections
 import math
 from fractions import Fraction
 
@@ -39,9 +40,11 @@ def uniformised(chain):
     return weights, total
 
 
-def jump_values(weights, total, live, goal):
-    """For 0, 1, 2, .. jumps: each state's probability of reaching the goal within them by live states, in units of total^-jumps."""
-    values = [int(state in goal) for state in range(len(weights))]
+def jump_values(weights, total, live, goal, start):
+    """For 0, 1, 2, .. jumps: each state's probability of reaching the goal within them by live states, or else of being in a
+    state of the start after them without having left the live ones; in units of total^-jumps. Where the start is the goal it
+    is the probability of reaching it."""
+    values = [int(state in start) for state in range(len(weights))]
     power = 1
     while True:
         yield values
@@ -49,6 +52,55 @@ def jump_values(weights, total, live, goal):
         values = [power * (state in goal) for state in range(len(weights))]
         for state in live - goal:
             values[state] = sum(share * earlier[target] for target, share in weights[state])
+
+
+def reached_within(chain, live, goal, start, counts):
+    """For each of the ascending counts: each state's jump value from this start, as a fraction."""
+    weights, total = uniformised(chain)
+    found = {}
+    for jumps, values in zip(range(counts[-1] + 1), jump_values(weights, total, live, goal, start)):
+        if jumps in counts:
+            found[jumps] = [Fraction(value, total ** jumps) for value in values]
+    return found
+
+
+def reaching(chain, live, goal):
+    """The states of the goal, and those from which transitions lead to it by live states alone."""
+    sources = collections.defaultdict(list)
+    for state in live - goal:
+        for target, _ in chain.rows[state]:
+            sources[target].append(state)
+    reached, waiting = set(goal), list(goal)
+    while waiting:
+        for state in sources[waiting.pop()]:
+            if state not in reached:
+                reached.add(state)
+                waiting.append(state)
+    return reached
+
+
+def reached_at_all(chain, live, goal):
+    """Each state's probability of reaching the goal by live states, at whatever time: the solution of the equations that say
+    that it is the mean of the next states' ones."""
+    moving = sorted(reaching(chain, live, goal) - goal)
+    equations = [equation_of(chain.rows[state], state, moving, goal) for state in moving]
+    for place in range(len(moving)):
+        # This is never 0, since from each moving state a way leads to the goal.
+        pivot = equations[place][place]
+        equations[place] = [number / pivot for number in equations[place]]
+        for other in range(len(moving)):
+            if other != place:
+                factor = equations[other][place]
+                equations[other] = [number - factor * part for number, part in zip(equations[other], equations[place])]
+    solved = {state: equation[-1] for state, equation in zip(moving, equations)}
+    return [solved.get(state, Fraction(state in goal)) for state in range(chain.states)]
+
+
+def equation_of(row, state, moving, goal):
+    """The factors of the moving states' probabilities, and at the end the sum that they come to."""
+    rates = dict(row)
+    factors = [Fraction((other == state) * exit_rate(row) - rates.get(other, 0)) for other in moving]
+    return factors + [Fraction(sum(rate for target, rate in row if target in goal))]
 
 
 def until_averages(chain, live, goal, load, counts):
@@ -60,7 +112,7 @@ def until_averages(chain, live, goal, load, counts):
     # With w_k = load^k / k! scaled by den^n n!, the weighted sum and the sum of weights are whole numbers at each n.
     weight, weight_sum, sums = 1, 1, [0] * chain.states
     found, last = {}, counts[-1]
-    for jumps, values in zip(range(last + 1), jump_values(weights, total, live, goal)):
+    for jumps, values in zip(range(last + 1), jump_values(weights, total, live, goal, goal)):
         if jumps > 0:
             growth = load.denominator * jumps
             weight *= load.numerator

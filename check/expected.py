@@ -31,16 +31,17 @@ KINDS = [
     *(f"refused {file} {what}" for file, faults in FILE_FAULTS.items() for what in faults),
     *(f"missing {file}" for file in FILE_FAULTS), "input failed", "output failed",
 ]
-ANSWERS = ["without operator", "next", "until"]
+ANSWERS = ["without operator", "next", "until within a time", "until without a bound"]
 REFUSALS = ["NotBuilt", "TooLong", "TooLarge", "Length", "Token", "Number", "Expected", "UnknownLabel", "Threshold", "Depth"]
 
 
 class Asked(NamedTuple):
-    """An until that is answered: over which chain and sets of states, and with which options."""
+    """An until that is answered: over which chain and sets of states, and with which options. One without a bound has no
+    time."""
     chain: Chain
     live: frozenset
     goal: frozenset
-    time: Decimal
+    time: Optional[Decimal]
     comparison: bytes
     threshold: Decimal
     options: Options
@@ -49,7 +50,10 @@ class Asked(NamedTuple):
         return time_load(self.chain, self.time)
 
     def horizon(self):
-        return horizon(self.load(), self.options.bits)
+        return self.options.jumps if self.time is None else horizon(self.load(), self.options.bits)
+
+    def words(self):
+        return until_words(self.chain, self.live, self.goal, self.time, self.options)
 
 
 class Reply(NamedTuple):
@@ -164,20 +168,22 @@ def next_reply(formula, chain, labels):
 
 
 def until_reply(number, formula, chain, labels, options):
-    comparison, threshold, live, (_, time), goal = formula.parts
+    comparison, threshold, live, bound, goal = formula.parts
     live, goal = (satisfying(operand, chain.states, labels) for operand in (live, goal))
-    asked = Asked(chain, live, goal, time, comparison, threshold, options)
+    asked = Asked(chain, live, goal, bound and bound[1], comparison, threshold, options)
+    # Without a bound it is the number of the option, which is in the range.
     last = asked.horizon()
     if last > MOST_JUMPS:
         return refusal(number, "TooLong")
     if (last + 1) * chain.states > MOST_WORDS:
         return refusal(number, "TooLarge")
-    words = until_words(chain, live, goal, time, options.bits)
+    words = asked.words()
     verdicts = [verdict(comparison, threshold, *pair) for pair in words]
     brackets = [rounded_out(*pair, ONE) for pair in words]
+    # These are right, but only the last of them must be so; see watch_lines.py.
     watched = [b"watch %d %s %s\n" % (place, *brackets[options.state - 1]) for place in range(1, options.watch + 1)]
     text = answer_text(formula, [b"horizon %d\n" % last, *watched, *state_lines(verdicts, brackets)])
-    return Reply("until", text, asked)
+    return Reply("until within a time" if bound else "until without a bound", text, asked)
 
 
 def verdict(comparison, threshold, lower, upper):

@@ -24,16 +24,16 @@ def has_operator(formula):
 
 def is_built(formula):
     """Whether formulas of this form are answered."""
-    if formula.kind == "next" or is_timed_until(formula):
-        return not any(map(has_operator, operands(formula)))
+    if formula.kind in OPERATORS:
+        return not bounds_reward(formula) and not any(map(has_operator, operands(formula)))
     return not has_operator(formula)
 
 
-def is_timed_until(formula):
+def bounds_reward(formula):
     if formula.kind != "until":
         return False
     bound = formula.parts[3]
-    return bound is not None and bound[0] == "time"
+    return bound is not None and bound[0] == "reward"
 
 
 def satisfying(formula, states, labels):

@@ -1,9 +1,8 @@
 """The rounded level: words of 2^-62, rounded down or up at every step, of which the printed bytes are a function."""
-import collections
 import functools
 import math
 
-from exact import horizon, time_load, uniformised
+from exact import horizon, reaching, time_load, uniformised
 
 ONE = 2 ** 62
 FINE = 2 ** 50
@@ -57,54 +56,63 @@ class Mix:
         return lower, min(ONE, upper)
 
 
+def until_words(chain, live, goal, time, options):
+    """Each state's two words, round the probability of reaching the goal by live states: within the time, or at all where it
+    is None."""
+    if time is None:
+        return last_words(chain, live, goal, options.jumps)
+    return mixed_words(chain, live, goal, time, options.bits)
+
+
 @functools.lru_cache(maxsize=32)
-def until_words(chain, live, goal, time, bits):
-    """Each state's two words, round the probability of reaching the goal by live states within the time."""
+def mixed_words(chain, live, goal, time, bits):
+    """The mix of a state's words over 0 jumps up to the horizon."""
     load = time_load(chain, time)
     last = horizon(load, bits)
     mix = Mix(load, last, bits)
-    weights, total = uniformised(chain)
-    # A state from which the goal can't be reached has the word 0 throughout, and one of the goal 1, so these need no steps; in
-    # a large chain with few transitions they are nearly all.
-    moving = sorted(reaching(weights, live, goal) - goal)
-    low_sums, high_sums = column_sums(weights, total, goal, moving, mix, last)
-    words = [(ONE, ONE) if state in goal else (0, 0) for state in range(chain.states)]
+    words, moving = settled_words(chain, live, goal)
+    low_sums, high_sums = dict.fromkeys(moving, 0), dict.fromkeys(moving, 0)
+    for jumps, (low, high) in enumerate(layers(chain, goal, goal, moving, last)):
+        for state in moving:
+            low_sums[state] += mix.low_term(jumps, low[state])
+            high_sums[state] += mix.high_term(jumps, high[state])
     for state in moving:
         words[state] = mix.words(low_sums[state], high_sums[state])
     return words
 
 
-def reaching(weights, live, goal):
-    """The states of the goal, and those from which jumps lead to it by live states alone."""
-    sources = collections.defaultdict(list)
-    for state in live - goal:
-        for target, share in weights[state]:
-            if share > 0:
-                sources[target].append(state)
-    reached, waiting = set(goal), list(goal)
-    while waiting:
-        for state in sources[waiting.pop()]:
-            if state not in reached:
-                reached.add(state)
-                waiting.append(state)
-    return reached
+@functools.lru_cache(maxsize=32)
+def last_words(chain, live, goal, last):
+    """A state's words after the last jump, where the upper ones are 1 before the first wherever the goal can be reached."""
+    words, moving = settled_words(chain, live, goal)
+    for low, high in layers(chain, goal, goal.union(moving), moving, last):
+        pass
+    for state in moving:
+        words[state] = low[state], high[state]
+    return words
 
 
-def column_sums(weights, total, goal, moving, mix, last):
-    """For each moving state the weighted sums of its lower and of its upper words over 0 to `last` jumps."""
-    low = [ONE if state in goal else 0 for state in range(len(weights))]
-    high = list(low)
-    low_sums, high_sums = dict.fromkeys(moving, 0), dict.fromkeys(moving, 0)
-    for jumps in range(last + 1):
-        if jumps > 0:
-            next_low = {s: sum(share * low[t] for t, share in weights[s]) // total for s in moving}
-            next_high = {s: divide_up(sum(share * high[t] for t, share in weights[s]), total) for s in moving}
-            for state in moving:
-                low[state], high[state] = next_low[state], next_high[state]
-        for state in moving:
-            low_sums[state] += mix.low_term(jumps, low[state])
-            high_sums[state] += mix.high_term(jumps, high[state])
-    return low_sums, high_sums
+def settled_words(chain, live, goal):
+    """The words of the states of the goal and of those from which it can't be reached, and which states are neither.
+
+    The words of the settled states are the same after each jump, so these need no steps; in a large chain with few transitions
+    they are nearly all."""
+    moving = sorted(reaching(chain, live, goal) - goal)
+    return [(ONE, ONE) if state in goal else (0, 0) for state in range(chain.states)], moving
+
+
+def layers(chain, start_low, start_high, moving, last):
+    """For 0 to `last` jumps the lower and the upper words of all states, from 1 on the two starts and 0 elsewhere; those that
+    aren't moving keep theirs. The lists are the same ones each time."""
+    weights, total = uniformised(chain)
+    low, high = ([ONE if state in start else 0 for state in range(chain.states)] for start in (start_low, start_high))
+    yield low, high
+    for _ in range(last):
+        next_low = [sum(share * low[target] for target, share in weights[state]) // total for state in moving]
+        next_high = [divide_up(sum(share * high[target] for target, share in weights[state]), total) for state in moving]
+        for state, lower, upper in zip(moving, next_low, next_high):
+            low[state], high[state] = lower, upper
+        yield low, high
 
 
 def slack(last, bits):
