@@ -1,18 +1,4 @@
-pub mod ExactAnswers
-pub mod ExactSets
-pub mod ChainWalks
-pub mod PlanCells
-pub mod PlanWords
-pub mod Rounding
-pub mod SameTables
-pub mod Verdicts
-pub mod WatchedLemmas
-pub mod WatchedWords
-pub mod TruthValues
 pub mod Unwatched
-pub mod FormulaAnswers
-pub mod ExactFormulas
-pub mod ReadStates
 pub mod Readings
 pub mod Said
 pub mod Commands
@@ -27,4 +13,3 @@ pub mod WorkedExample
 pub mod ExactReplies
 pub mod Served
 pub mod SureObjects
-pub mod Widening

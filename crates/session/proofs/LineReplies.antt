@@ -1,20 +1,23 @@
 -- Each line of the formulas has a reply, and each list of lines a list of replies; they are one but for the brackets of the watched state.
-use Rattle.std.proofs.Common.{◌≡◌, ℕ, ◌⊎◌, inl, inr, Bool, true, false, if◌then◌else◌, List, [], ◌∷◌, refl, sym, ap, ◌∙◌}
+use Rattle.std.proofs.Common.{◌≡◌, ℕ, ◌⊎◌, inl, inr, Bool, true, false, if◌then◌else◌, List, [], ◌∷◌, Option, Some, None, refl, sym, ap, ◌∙◌}
 use Rattle.std.specs.List.{AllZip}
 use Rattle.command_words.specs.declared.command.Options.{Options}
+use Rattle.csl_semantics.specs.Truth.{has_no_reward}
+use Rattle.csl_syntax.specs.CanonicalText.{formula_text}
 use Rattle.csl_syntax.specs.FormulaFault.{FormulaFaultAt}
 use Rattle.csl_syntax.specs.Laws.{SaysSomeFormula, HasSomeFormulaFault}
-use Rattle.csl_syntax.specs.Tree.{Tree}
 use Rattle.csl_syntax.specs.declared.fault.FormulaFault.{FormulaFault}
 use Rattle.csl_syntax.specs.declared.fault.FormulaWhat.{FormulaWhat}
 use Rattle.csl_syntax.proofs.Outcomes.{formula_or_fault}
 use Rattle.csl_syntax.proofs.Scanning.{formula_is_one, fault_is_one, formula_has_no_fault}
 use Rattle.model_core.specs.Model.{LabelledChain}
-use Rattle.session.specs.FormulaAnswer.{FormulaAnswer, Answers, Refuses, formula_answer, is_built}
+use Rattle.report.specs.Answer.{AnswerLists}
+use Rattle.nested_verdict.specs.FormulaAnswer.{formula_answer, first_refusal}
 use Rattle.session.specs.FormulaLines.{formula_lines}
-use Rattle.session.specs.LineReply.{LineReply, Answered, Faulty, NotBuilt, Refused, NumberedReply, built_reply, formula_reply, unwatched_reply, unwatched_replies, RepliesTo}
+use Rattle.session.specs.LineReply.{LineReply, Answered, Faulty, NotBuilt, Refused, NumberedReply, reply_unless, formula_reply, unwatched_reply, unwatched_replies, RepliesTo}
 use Rattle.session.specs.LineReply.{IsLineReply, IsReplyTo, AreReplies}
 use Rattle.session.proofs.Unwatched.{computed_unwatched, filled_reply, filled_unwatched, filled_watched, reply_whole}
+use Rattle.step_core.specs.declared.plan_error.PlanError.{PlanError}
 use Rattle.text_lines.specs.Lines.{LineText}
 
 -- ---- one line
@@ -57,16 +60,18 @@ module _ (over : LabelledChain) (options : Options) (line : List ℕ) where
           ap unwatched_reply (p.is ∙ ap Faulty (same_fault p.fault q.fault p.has q.has) ∙ sym q.is)
 
   -- the reply to a formula tells no fault
-  tells_none : (f : Tree) (fault : FormulaFault) (built : Bool) (answer : FormulaAnswer)
-      → Faulty fault ≡ (if built then built_reply over.names f answer else NotBuilt) → ⊥
-  tells_none f fault false answer e = cc
-  tells_none f fault true (Answers answer) e = cc
-  tells_none f fault true (Refuses refusal) e = cc
+  tells_none : (fault : FormulaFault) (built : Bool) (refusal : Option PlanError) (text : List ℕ) (answer : AnswerLists)
+      → Faulty fault ≡ (if built then reply_unless refusal (Answered text answer) else NotBuilt) → ⊥
+  tells_none fault false refusal text answer e = cc
+  tells_none fault true None text answer e = cc
+  tells_none fault true (Some r) text answer e = cc
 
   -- the reply to a formula is that to the line that stands for it
   pub is_line_reply : (reply : LineReply) → RepliesTo over options line reply → IsLineReply over options line reply
   is_line_reply (Answered text answer) h = h
-  is_line_reply (Faulty fault) h = absurd (tells_none h.formula fault (is_built h.formula) (formula_answer over options h.formula) h.is)
+  is_line_reply (Faulty fault) h =
+      absurd (tells_none fault (has_no_reward h.formula) (first_refusal over options h.formula) (formula_text over.names h.formula)
+      (formula_answer over options h.formula) h.is)
   is_line_reply NotBuilt h = h
   is_line_reply (Refused refusal) h = h
 

@@ -1,4 +1,4 @@
--- Answers and replies but for the brackets of the watched state, and such brackets as an answer may have.
+-- Replies but for the brackets of the watched state, and such brackets as an answer may have.
 use Rattle.std.proofs.Common.{◌≡◌, ℕ, ◌<◌, Bool, true, false, if◌then◌else◌, List, [], ◌∷◌, length, replicate, get_or, Option, Some, None, option_map, refl, sym, ap, ◌∙◌, subst, subst₂, arith, length-append, inl, inr}
 use Rattle.std.specs.Prelude.{slice_get, slice_index_or}
 use Rattle.std.proofs.lemmas.List.{get_or-replicate, length-replicate}
@@ -7,53 +7,34 @@ use Rattle.std.proofs.lemmas.Bool.{cases_lt}
 use Rattle.std.proofs.lemmas.Option.{slice_get-get_or, slice_get_past}
 use Rattle.ctmc_semantics.specs.Bracket.{Bracket, Encloses}
 use Rattle.command_words.specs.declared.command.Options.{Options}
+use Rattle.csl_semantics.specs.Truth.{has_no_reward}
 use Rattle.csl_syntax.specs.CanonicalText.{formula_text}
-use Rattle.csl_syntax.specs.Tree.{Tree, truth, falsehood, label, negation, conjunction, disjunction, next, until}
+use Rattle.csl_syntax.specs.Tree.{Tree}
 use Rattle.model_core.specs.Model.{LabelledChain}
 use Rattle.report.specs.Answer.{AnswerLists, ShownLists}
-use Rattle.session.specs.UnwatchedAnswer.{unwatched_shown, unwatched_answer}
-use Rattle.session.specs.FormulaAnswer.{FormulaAnswer, Answers, Refuses, unless_refused, formula_answer, is_built}
-use Rattle.session.specs.LineReply.{LineReply, Answered, Faulty, NotBuilt, Refused, built_reply, formula_reply, unwatched_reply, IsWatchedReply}
-use Rattle.session.specs.WatchedBrackets.{bracket_of, AreTaken, AreWatchedBy, IsWatched}
+use Rattle.nested_verdict.specs.UnwatchedAnswer.{unwatched_shown, unwatched_answer}
+use Rattle.nested_verdict.specs.FormulaAnswer.{formula_answer, first_refusal}
+use Rattle.session.specs.LineReply.{LineReply, Answered, Faulty, NotBuilt, Refused, reply_unless, formula_reply, unwatched_reply, IsWatchedReply}
+use Rattle.nested_verdict.specs.WatchedBrackets.{bracket_of, AreTaken, AreWatchedBy, IsWatched}
+use Rattle.nested_verdict.proofs.FormulaAnswers.{formula_unwatched}
 use Rattle.report.specs.declared.answer.Printed.{Printed}
 use Rattle.report.specs.declared.answer.Verdict.{Verdict}
 use Rattle.step_core.specs.declared.plan_error.PlanError.{PlanError}
 
 -- ---- what is computed has no such brackets
-answers_same : (a b : AnswerLists) → Answers a ≡ Answers b → a ≡ b
-answers_same a b e = cc
-
-refused_never_answers : (r : PlanError) (a : AnswerLists) → Refuses r ≡ Answers a → ⊥
-refused_never_answers r a e = cc
-
-unless_same : (refusal : Option PlanError) (a b : AnswerLists) → unless_refused refusal a ≡ Answers b → a ≡ b
-unless_same None a b e = answers_same a b e
-unless_same (Some r) a b e = absurd (refused_never_answers r b e)
-
-as_computed : (a b : AnswerLists) → unwatched_answer a ≡ a → a ≡ b → unwatched_answer b ≡ b
-as_computed a b plain same = subst (λ (z : AnswerLists). unwatched_answer z ≡ z) same plain
-
 module _ (over : LabelledChain) (options : Options) where
-  answer_unwatched : (f : Tree) (a : AnswerLists) → formula_answer over options f ≡ Answers a → unwatched_answer a ≡ a
-  answer_unwatched truth a e = as_computed _ a refl (answers_same _ a e)
-  answer_unwatched falsehood a e = as_computed _ a refl (answers_same _ a e)
-  answer_unwatched (label j) a e = as_computed _ a refl (answers_same _ a e)
-  answer_unwatched (negation f) a e = as_computed _ a refl (answers_same _ a e)
-  answer_unwatched (conjunction f g) a e = as_computed _ a refl (answers_same _ a e)
-  answer_unwatched (disjunction f g) a e = as_computed _ a refl (answers_same _ a e)
-  answer_unwatched (next op q f) a e = as_computed _ a refl (answers_same _ a e)
-  answer_unwatched (until op q f bound g) a e = as_computed _ a refl (unless_same _ _ a e)
-
-  reply_unwatched : (f : Tree) (built : Bool) (answer : FormulaAnswer) → ((a : AnswerLists) → answer ≡ Answers a → unwatched_answer a ≡ a)
-      → unwatched_reply (if built then built_reply over.names f answer else NotBuilt)
-      ≡ (if built then built_reply over.names f answer else NotBuilt)
-  reply_unwatched f false answer h = refl
-  reply_unwatched f true (Answers a) h = ap (Answered (formula_text over.names f)) (h a refl)
-  reply_unwatched f true (Refuses r) h = refl
+  reply_unwatched : (built : Bool) (refusal : Option PlanError) (text : List ℕ) (answer : AnswerLists) → unwatched_answer answer ≡ answer
+      → unwatched_reply (if built then reply_unless refusal (Answered text answer) else NotBuilt)
+      ≡ (if built then reply_unless refusal (Answered text answer) else NotBuilt)
+  reply_unwatched false refusal text answer h = refl
+  reply_unwatched true None text answer h = ap (Answered text) h
+  reply_unwatched true (Some r) text answer h = refl
 
   -- the reply that is computed is its own but for such brackets
   pub computed_unwatched : (f : Tree) → unwatched_reply (formula_reply over options f) ≡ formula_reply over options f
-  computed_unwatched f = reply_unwatched f (is_built f) (formula_answer over options f) (answer_unwatched f)
+  computed_unwatched f =
+      reply_unwatched (has_no_reward f) (first_refusal over options f) (formula_text over.names f) (formula_answer over options f)
+      (formula_unwatched over options f)
 
 -- ---- a bracket as often as it is asked for
 encloses_itself : (b : Bracket) → Encloses b b
@@ -180,16 +161,3 @@ reply_whole options none (Answered text answer) h =
 reply_whole options none (Faulty fault) h = refl
 reply_whole options none NotBuilt h = refl
 reply_whole options none (Refused refusal) h = refl
-
--- ---- an answer that shows brackets has those of the watched state
-pub shown_is_watched : (options : Options) (answer : AnswerLists) (verdicts : List Verdict) (shown : ShownLists)
-    → answer ≡ record { verdicts = verdicts; shown = Some shown } → AreWatchedBy options shown.horizon shown.states shown.watched
-    → IsWatched options answer
-shown_is_watched options answer verdicts shown is h =
-    subst (IsWatched options) (sym is)
-    (λ x e. subst (λ (z : ShownLists). AreWatchedBy options z.horizon z.states z.watched) (some_same shown x e) h)
-
--- one that shows none has none
-pub unshown_is_watched : (options : Options) (answer : AnswerLists) (verdicts : List Verdict)
-    → answer ≡ record { verdicts = verdicts; shown = None } → IsWatched options answer
-unshown_is_watched options answer verdicts is = subst (IsWatched options) (sym is) (λ x e. absurd (none_never_some x e))

@@ -4,51 +4,46 @@ use Rattle.std.specs.Io.KnownBytes.{Appends}
 use Rattle.std.specs.List.{AllZip}
 use Rattle.command_words.specs.Command.{Spoken}
 use Rattle.command_words.specs.declared.command.Options.{Options}
+use Rattle.csl_semantics.specs.Truth.{has_no_reward}
 use Rattle.csl_syntax.specs.CanonicalText.{formula_text}
 use Rattle.csl_syntax.specs.FormulaFault.{FormulaFaultAt}
 use Rattle.csl_syntax.specs.FormulaText.{FormulaSays}
-use Rattle.csl_syntax.specs.Tree.{Tree, until}
+use Rattle.csl_syntax.specs.Tree.{Tree}
 use Rattle.model_core.specs.Model.{LabelledChain}
 use Rattle.outside.specs.Shelf.{Pair}
 use Rattle.report.specs.Answer.{AnswerLists}
 use Rattle.report.specs.RefusalText.{refusal_line}
-use Rattle.session.specs.ExactAnswer.{IsExactAnswer}
-use Rattle.session.specs.FormulaAnswer.{is_built}
+use Rattle.nested_verdict.specs.ExactAnswer.{IsExactAnswer}
+use Rattle.nested_verdict.specs.FormulaAnswer.{first_refusal}
 use Rattle.session.specs.FormulaLines.{formula_lines}
 use Rattle.session.specs.LineReply.{LineReply, Answered, Faulty, NotBuilt, Refused, NumberedReply, all_answered, replies_text}
 use Rattle.session.specs.ModelFiles.{TakesModel, model_of}
-use Rattle.session.specs.UntilPlan.{bound_refusal}
 use Rattle.session.specs.Outcome.{TakesInput, HasLongInput, long_text}
 use Rattle.session.specs.declared.status.Status.{Status}
 use Rattle.session.specs.declared.status.Status.TheVariants.{Done, Refused as RefusedStatus}
 use Rattle.step_core.specs.declared.plan_error.PlanError.{PlanError}
 use Rattle.text_lines.specs.Lines.{LineText}
 
--- the formula has no plan, for this reason
-abbrev pub HasNoPlan : LabelledChain → Options → Tree → PlanError → Type 0
-HasNoPlan over options (until op q f bound g) refusal = bound_refusal over options bound ≡ Some refusal
-HasNoPlan over options other refusal = ⊥
-
--- the line stands for a formula that is built, the text is that formula's, and the answer is exact
+-- the line stands for a formula without a bound on a reward, the text is that formula's, and the answer is exact
 pub record AnswersExactly (over : LabelledChain) (options : Options) (line text : List ℕ) (answer : AnswerLists) : Type 0 where
   pub formula : Tree
   pub says : FormulaSays line over.names formula
-  pub built : IsTrue (is_built formula)
+  pub built : IsTrue (has_no_reward formula)
   pub is_text : text ≡ formula_text over.names formula
   pub exact : IsExactAnswer over options formula answer
 
--- the line stands for a formula that isn't built
+-- the line stands for a formula that has a bound on a reward
 pub record StandsForUnbuilt (over : LabelledChain) (line : List ℕ) : Type 0 where
   pub formula : Tree
   pub says : FormulaSays line over.names formula
-  pub unbuilt : IsTrue (not (is_built formula))
+  pub unbuilt : IsTrue (not (has_no_reward formula))
 
--- the line stands for a formula that is built, and that has no plan, for this reason
+-- the line stands for a formula without a bound on a reward, and this is why the first of its untils that has no plan has none
 pub record StandsForRefused (over : LabelledChain) (options : Options) (line : List ℕ) (refusal : PlanError) : Type 0 where
   pub formula : Tree
   pub says : FormulaSays line over.names formula
-  pub built : IsTrue (is_built formula)
-  pub cause : HasNoPlan over options formula refusal
+  pub built : IsTrue (has_no_reward formula)
+  pub cause : first_refusal over options formula ≡ Some refusal
 
 -- the reply to the line is exact: an answer is, and a refusal has its cause
 abbrev pub IsExactReply : LabelledChain → Options → List ℕ → LineReply → Type 0

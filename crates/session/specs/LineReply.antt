@@ -1,7 +1,8 @@
 -- What is replied to a line of the formulas.
-use Rattle.std.specs.Prelude.{◌≡◌, ℕ, Bool, true, false, ◌&&◌, ◌++◌, if◌then◌else◌, List, [], ◌∷◌, map, ⊤, codes}
+use Rattle.std.specs.Prelude.{◌≡◌, ℕ, Bool, true, false, ◌&&◌, ◌++◌, if◌then◌else◌, List, [], ◌∷◌, map, Option, Some, None, ⊤, codes}
 use Rattle.std.specs.List.{AllZip}
 use Rattle.command_words.specs.declared.command.Options.{Options}
+use Rattle.csl_semantics.specs.Truth.{has_no_reward}
 use Rattle.csl_syntax.specs.CanonicalText.{formula_text}
 use Rattle.csl_syntax.specs.FormulaFault.{FormulaFaultAt}
 use Rattle.csl_syntax.specs.FormulaText.{FormulaSays}
@@ -9,16 +10,17 @@ use Rattle.csl_syntax.specs.Tree.{Tree}
 use Rattle.csl_syntax.specs.declared.fault.FormulaFault.{FormulaFault}
 use Rattle.model_core.specs.Model.{LabelledChain}
 use Rattle.report.specs.Answer.{AnswerLists}
-use Rattle.session.specs.UnwatchedAnswer.{unwatched_answer}
-use Rattle.session.specs.FormulaAnswer.{FormulaAnswer, Answers, Refuses, formula_answer, is_built}
+use Rattle.nested_verdict.specs.UnwatchedAnswer.{unwatched_answer}
+use Rattle.nested_verdict.specs.FormulaAnswer.{formula_answer, first_refusal}
 use Rattle.session.specs.FormulaLines.{formula_lines}
 use Rattle.report.specs.AnswerText.{formula_line, answer_lines}
 use Rattle.report.specs.RefusalText.{formula_fault_text, plan_refusal_text, refused_text, refusal_line}
-use Rattle.session.specs.WatchedBrackets.{IsWatched}
+use Rattle.nested_verdict.specs.WatchedBrackets.{IsWatched}
 use Rattle.step_core.specs.declared.plan_error.PlanError.{PlanError}
 use Rattle.text_lines.specs.Lines.{LineText}
 
--- a formula's text and its answer; what is wrong with the line; that its formula is not built; or why the formula is refused
+-- a formula's text and its answer; what is wrong with the line; that its formula has a bound on a reward, which is not built; or why the
+-- formula is refused
 pub data LineReply : Type 0 where
   Answered : List ℕ → AnswerLists → LineReply
   Faulty : FormulaFault → LineReply
@@ -30,14 +32,17 @@ pub record NumberedReply : Type 0 where
   pub number : ℕ
   pub reply : LineReply
 
--- the reply to a formula that is built
-abbrev pub built_reply : List (List ℕ) → Tree → FormulaAnswer → LineReply
-built_reply names f (Answers answer) = Answered (formula_text names f) answer
-built_reply names f (Refuses refusal) = Refused refusal
+-- the refusal, where there is one, and else the reply
+abbrev pub reply_unless : Option PlanError → LineReply → LineReply
+reply_unless (Some refusal) reply = Refused refusal
+reply_unless None reply = reply
 
 -- the reply to a formula, but for the brackets of the watched state
 abbrev pub formula_reply : LabelledChain → Options → Tree → LineReply
-formula_reply over options f = if is_built f then built_reply over.names f (formula_answer over options f) else NotBuilt
+formula_reply over options f =
+    if has_no_reward f
+    then reply_unless (first_refusal over options f) (Answered (formula_text over.names f) (formula_answer over options f))
+    else NotBuilt
 
 -- the reply but for the brackets of the watched state
 abbrev pub unwatched_reply : LineReply → LineReply

@@ -6,18 +6,11 @@ mod formula_lines;
 mod laws;
 mod line_reply;
 mod model_files;
-mod nested_verdict;
-mod next_states;
 mod reading;
 mod replies;
-mod state_answer;
 mod status;
 mod sure;
 mod top;
-mod truth_values;
-mod until_brackets;
-mod until_plan;
-mod until_states;
 mod worked_example;
 
 pub use laws::{input_has_an_outcome, outcome_is_one};

@@ -9,11 +9,11 @@ ghost use Rattle.report.specs.RefusalText.{refusal_line, refused_text};
 ghost use Rattle.session.specs.LineReply.{IsLineReply, is_answer, reply_text};
 ghost use Rattle.session.specs.Reading.{line_reply_of, IsReplyWritable};
 
-use crate::built::is_built;
-use crate::nested_verdict::{CheckFault, check};
+use crate::built::has_no_reward;
 use command_words::Options;
 use csl_syntax::{Formula, FormulaFault, ParseFault, parse};
 use model_core::Model;
+use nested_verdict::{CheckFault, check};
 use outside::{Gate, PutFault, Sink};
 use report::{
     Answer, put_formula_fault, put_plan_refusal, put_refused, write_answer, write_refusal,
@@ -30,9 +30,9 @@ pub(crate) enum Reply {
     Answered(Formula, Answer),
     /// The line is no formula.
     Faulty(FormulaFault),
-    /// The formula is none of those that are answered today.
+    /// The formula has a bound on a reward; such formulas aren't answered today.
     NotBuilt,
-    /// The formula is an until that has no plan.
+    /// An until of the formula has no plan.
     Refused(PlanError),
 }
 
@@ -64,7 +64,7 @@ pub(crate) fn reply_to<R: Threads + Sync, G: Gate>(
         Err(ParseFault::At(fault)) => return Ok(Reply::Faulty(fault)),
         Err(ParseFault::Memory) => return Err(AllocError),
     };
-    if !is_built(&formula) {
+    if !has_no_reward(&formula) {
         return Ok(Reply::NotBuilt);
     }
     let answer = match check(rt, alloc, model, &formula, options, gate) {

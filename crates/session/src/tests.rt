@@ -16,6 +16,7 @@ mod files;
 mod limits;
 mod line_faults;
 mod lines;
+mod nested;
 mod next;
 mod options;
 mod reach;

@@ -149,7 +149,7 @@ fn an_until_looks_at_16384_jumps_at_most(rt: HostRuntime) -> Result<(), Fail> {
     Ok(())
 }
 
-const WIDE: &[u8] = b"STATES 65536\nTRANSITIONS 1\n1 2 1\n";
+pub(super) const WIDE: &[u8] = b"STATES 65536\nTRANSITIONS 1\n1 2 1\n";
 
 // Over 65,536 states the tables fit up to 128 layers, that is to a horizon of 127.
 #[test]

@@ -1,4 +1,4 @@
-// Lines that are refused, each for its reason, and the formulas that aren't answered yet.
+// Lines that are refused, each for its reason, and the formulas with a bound on a reward, which aren't answered yet.
 use super::*;
 
 // Over the label `a` alone.
@@ -40,17 +40,18 @@ fn each_fault_of_a_line_is_told_with_its_column(rt: HostRuntime) -> Result<(), F
 
 const NOT_BUILT: &[&[u8]] = &[
     b"P{>=0.5}[tt U[0,~][0,2] a]",
-    b"P{>=0.5}[tt U P{>0}[X a]]",
-    b"P{>=0.5}[X P{>0}[X a]]",
-    b"P{>=0.5}[tt U[0,1] P{>0}[X a]]",
-    b"P{>=0.5}[!P{>0}[X a] U[0,1] a]",
-    b"a && P{>=0.5}[X a]",
-    b"P{>=0.5}[X a] || tt",
-    b"!P{>=0.5}[X a]",
+    b"!P{>=0.5}[tt U[0,~][0,2] a]",
+    b"a && P{>=0.5}[tt U[0,~][0,2] a]",
+    b"P{>=0.5}[tt U[0,~][0,2] a] || tt",
+    b"P{>0}[X P{>=0.5}[tt U[0,~][0,2] a]]",
+    b"P{>=0.5}[P{>=0.5}[tt U[0,~][0,2] a] U[0,1] a]",
+    b"P{>=0.5}[tt U P{>=0.5}[tt U[0,~][0,2] a]]",
+    b"P{>=0.5}[tt U[0,~][0,2] P{>0}[X a]]",
 ];
 
+// Wherever in the formula the bound stands.
 #[test]
-fn formulas_that_are_not_answered_yet_are_named_so(rt: HostRuntime) -> Result<(), Fail> {
+fn formulas_with_a_bound_on_a_reward_are_not_answered_yet(rt: HostRuntime) -> Result<(), Fail> {
     for line in NOT_BUILT {
         let input = Input::ctmc(STEP, LAB, line);
         expect(&rt, input, Status::Refused, "refused line 1 NotBuilt\n")?;
@@ -58,7 +59,8 @@ fn formulas_that_are_not_answered_yet_are_named_so(rt: HostRuntime) -> Result<()
     Ok(())
 }
 
-// The fault of a line comes before whether its formula is answered, and that before how long an until is.
+// The fault of a line comes before whether its formula is answered, and that before how long an until is, within the bound
+// or round it.
 #[test]
 fn the_first_reason_of_a_refusal_is_told(rt: HostRuntime) -> Result<(), Fail> {
     expect(
@@ -66,10 +68,10 @@ fn the_first_reason_of_a_refusal_is_told(rt: HostRuntime) -> Result<(), Fail> {
         Input::ctmc(
             STEP,
             LAB,
-            b"P{>=0.5}[tt U b]\nP{>=0.5}[tt U[0,9e9] P{>0}[X a]]\nP{>=0.5}[tt U[0,9e9] a]\n",
+            b"P{>=0.5}[tt U[0,~][0,2] b]\nP{>=0.5}[tt U[0,9e9] P{>0}[tt U[0,~][0,2] a]]\nP{>=0.5}[P{>0}[tt U[0,9e9] a] U[0,~][0,2] a]\nP{>=0.5}[tt U[0,9e9] a]\n",
         ),
         Status::Refused,
-        "refused line 1 column 15 UnknownLabel\nrefused line 2 NotBuilt\nrefused line 3 TooLong\n",
+        "refused line 1 column 25 UnknownLabel\nrefused line 2 NotBuilt\nrefused line 3 NotBuilt\nrefused line 4 TooLong\n",
     )
 }
 

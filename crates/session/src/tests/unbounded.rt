@@ -6,9 +6,9 @@ use super::*;
 const FORK: &[u8] = b"STATES 3\nTRANSITIONS 2\n1 2 1\n1 3 1\n";
 
 // The same, and a state that goes to the first one at the greatest rate, so that the first stays with 1/2.
-const SLOW_FORK: &[u8] = b"STATES 4\nTRANSITIONS 3\n1 2 1\n1 3 1\n4 1 4\n";
+pub(super) const SLOW_FORK: &[u8] = b"STATES 4\nTRANSITIONS 3\n1 2 1\n1 3 1\n4 1 4\n";
 
-const RING: &[u8] = b"STATES 3\nTRANSITIONS 3\n1 2 1\n2 3 1\n3 1 1\n";
+pub(super) const RING: &[u8] = b"STATES 3\nTRANSITIONS 3\n1 2 1\n2 3 1\n3 1 1\n";
 
 // Asserts the text over the chain, with these words.
 fn expect_over(

@@ -5,7 +5,7 @@ use std::sync::atomic::{AtomicU64, Ordering};
 
 const UNTIL: &[u8] = b"P{>=0.5}[tt U[0,50] a]\n";
 
-const LINE_LAB: &[u8] = b"#DECLARATION\na\n#END\n200 a\n";
+pub(super) const LINE_LAB: &[u8] = b"#DECLARATION\na\n#END\n200 a\n";
 
 // The last layer of the until.
 const LAST: u32 = 130;
@@ -13,7 +13,7 @@ const LAST: u32 = 130;
 // A gate gives up after so many looks.
 const LOOKS: u32 = 100_000_000;
 
-fn line_tra(alloc: Global) -> Result<Vec<u8>, Fail> {
+pub(super) fn line_tra(alloc: Global) -> Result<Vec<u8>, Fail> {
     let mut tra = b"STATES 200\nTRANSITIONS 199\n".to_vec(alloc)?;
     for state in 1..200u32 {
         let next = state.saturating_add(1);

@@ -1,0 +1,112 @@
+-- The answer of an until at each state is exact, by each bound that is answered.
+use Rattle.std.proofs.Common.{ℕ, ◌+◌, ◌^◌, ◌<◌, ◌≤◌, Bool, IsTrue, List, sym, subst, arith}
+use Rattle.ctmc_semantics.specs.Bracket.{ContainsFrom, ContainsLimit}
+use Rattle.ctmc_semantics.specs.Fraction.{Fraction, decimal_fraction}
+use Rattle.ctmc_semantics.specs.Horizon.{horizon}
+use Rattle.ctmc_semantics.specs.Sets.{KnownSets, LieBetween, holds_at}
+use Rattle.ctmc_semantics.specs.Threshold.{Comparison}
+use Rattle.ctmc_semantics.specs.WordBracket.{WordBracket}
+use Rattle.ctmc_semantics.proofs.Powers.{power_le}
+use Rattle.command_words.specs.declared.command.Options.{Options}
+use Rattle.csl_semantics.specs.Meaning.{IsSat, comparison_of, load_of, reach_values, time_values}
+use Rattle.csl_syntax.specs.Tree.{Tree}
+use Rattle.csl_syntax.specs.declared.formula.Op.{Op}
+use Rattle.decimal_text.specs.DecimalNumber.{DecimalNumber}
+use Rattle.model_core.specs.Model.{LabelledChain}
+use Rattle.poisson_tail.specs.declared.layers.TheConstants.{MOST_LAYERS}
+use Rattle.report.specs.declared.answer.Verdict.{Verdict}
+use Rattle.nested_verdict.specs.ExactAnswer.{AreSo, ForEach, IsOutOfReach, AreNearTime, AreNearReach}
+use Rattle.nested_verdict.specs.ExactState.{AreNarrow, IsExactUntil}
+use Rattle.nested_verdict.specs.ThreeValues.{must_list, may_list, verdicts_know}
+use Rattle.nested_verdict.specs.UntilAnswer.{time_words, reach_words, words_answer}
+use Rattle.nested_verdict.specs.declared.state_answer.StateAnswer.{StateAnswer}
+use Rattle.nested_verdict.proofs.ExactAnswers.{words_exact}
+use Rattle.nested_verdict.proofs.NearWords.{reach_near, time_near}
+use Rattle.nested_verdict.proofs.OperandSets.{decided_sets, operands_between, sure_between}
+use Rattle.nested_verdict.proofs.Verdicts.{reach_contains, reach_decides, reach_settled, time_contains, time_decides, time_narrow, time_settled}
+use Rattle.nested_verdict.proofs.Widening.{from_widens, limit_widens}
+
+power_of_ten : (k : ℕ) → 0 < 10 ^ k
+power_of_ten k = omega (arith, power_le 10 0 k (omega arith) (omega arith))
+
+module _ (over : LabelledChain) (options : Options) (op : Op) (q : DecimalNumber) (f g : Tree) (vs ws : List Verdict)
+    (left : AreSo over f vs) (right : AreSo over g ws) where
+  abbrev by : Comparison
+  by = comparison_of op
+
+  abbrev limit : Fraction
+  limit = decimal_fraction q.c q.x
+
+  abbrev sets : KnownSets
+  sets = verdicts_know vs ws
+
+  abbrev must_live : ℕ → Bool
+  must_live = holds_at (must_list vs)
+
+  abbrev must_goal : ℕ → Bool
+  must_goal = holds_at (must_list ws)
+
+  more : (values : (ℕ → Bool) → (ℕ → Bool) → ℕ → ℕ → Fraction) (s : ℕ) (P Q : (ℕ → Fraction) → Type 0)
+      → ((x : ℕ → Fraction) → P x → Q x) → ForEach over f g values s P → ForEach over f g values s Q
+  more values s P Q h each = λ ys zs stands other. h (values (holds_at ys) (holds_at zs) s) (each ys zs stands other)
+
+  between : (ys zs : List Bool) → IsSat over f ys → IsSat over g zs → LieBetween sets (holds_at ys) (holds_at zs)
+  between ys zs stands other = operands_between over f g vs ws left right ys zs stands other
+
+  surely : LieBetween sets must_live must_goal
+  surely = sure_between vs ws
+
+  abbrev answer_by : WordBracket → StateAnswer
+  answer_by w = words_answer by w limit
+
+  pub reach_exact : (s : ℕ) → s < over.chain.states
+      → IsExactUntil by (ForEach over f g (reach_values over) s)
+      (λ b. ForEach over f g (reach_values over) s (ContainsLimit b options.jumps)) (AreNearReach over options vs ws s)
+      (IsTrue (must_goal s)) (IsOutOfReach over.chain (holds_at (may_list vs)) (holds_at (may_list ws)) s) limit
+      (answer_by (reach_words over.chain options.jumps sets s))
+  reach_exact s l =
+      words_exact by (ForEach over f g (reach_values over) s) (λ b x. ContainsLimit b options.jumps x) (AreNearReach over options vs ws s)
+      limit (reach_words over.chain options.jumps sets s) (power_of_ten q.x) (more (reach_values over) s)
+      (λ x. limit_widens options.jumps x) (reach_values over must_live must_goal s)
+      (reach_decides over.chain sets surely s l options.jumps must_live must_goal surely)
+      (λ ys zs stands other.
+      reach_decides over.chain sets surely s l options.jumps (holds_at ys) (holds_at zs) (between ys zs stands other))
+      (λ ys zs stands other.
+      reach_contains over.chain sets surely s l options.jumps (holds_at ys) (holds_at zs) (between ys zs stands other))
+      (IsTrue (must_goal s)) (IsOutOfReach over.chain (holds_at (may_list vs)) (holds_at (may_list ws)) s)
+      (reach_near over.chain sets surely s l options.jumps)
+      (reach_settled over.chain sets surely s l options.jumps)
+
+  module _ (t : DecimalNumber) (few : options.bits ≤ 48) (short : horizon (load_of over t) options.bits ≤ MOST_LAYERS) where
+    abbrev load : Fraction
+    load = load_of over t
+
+    abbrev last : ℕ
+    last = horizon load options.bits
+
+    some_load : 0 < load.den
+    some_load = power_of_ten (over.rate_decimals + t.x)
+
+    pub time_exact : (s : ℕ) → s < over.chain.states
+        → IsExactUntil by (ForEach over f g (time_values over t) s)
+        (λ b. ForEach over f g (time_values over t) s (ContainsFrom b last)) (AreNearTime over options t vs ws s)
+        (IsTrue (must_goal s)) (IsOutOfReach over.chain (holds_at (may_list vs)) (holds_at (may_list ws)) s) limit
+        (answer_by (time_words over.chain load options.bits sets s))
+    time_exact s l =
+        words_exact by (ForEach over f g (time_values over t) s) (λ b x. ContainsFrom b last x) (AreNearTime over options t vs ws s)
+        limit (time_words over.chain load options.bits sets s) (power_of_ten q.x) (more (time_values over t) s)
+        (λ x. from_widens last x) (time_values over t must_live must_goal s)
+        (time_decides over.chain sets surely s l load options.bits some_load few must_live must_goal surely)
+        (λ ys zs stands other.
+        time_decides over.chain sets surely s l load options.bits some_load few (holds_at ys) (holds_at zs) (between ys zs stands other))
+        (λ ys zs stands other.
+        time_contains over.chain sets surely s l load options.bits some_load few (holds_at ys) (holds_at zs) (between ys zs stands other))
+        (IsTrue (must_goal s)) (IsOutOfReach over.chain (holds_at (may_list vs)) (holds_at (may_list ws)) s)
+        (record {
+          near = time_near over.chain sets surely s l load options.bits some_load few short;
+          narrow = λ d e.
+              subst (λ known. AreNarrow last options.bits (time_words over.chain load options.bits known s))
+              (sym (decided_sets vs ws d e))
+              (time_narrow over.chain must_live must_goal s l load options.bits some_load few short);
+        })
+        (time_settled over.chain sets surely s l load options.bits some_load few)

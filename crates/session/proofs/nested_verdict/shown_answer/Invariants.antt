@@ -1,8 +1,0 @@
-use Rattle.std.proofs.Common.{◌≡◌, map, take}
-use Rattle.session.proofs.nested_verdict.shown_answer.Given as goal
-
-abbrev pub invariant-loop-state : goal.invariant-loop-state
-invariant-loop-state l = record {
-  verdicts : l.verdicts.items ≡ map (λ a. a.verdict) (take l.state-index l.states);
-  brackets : l.brackets.items ≡ map (λ a. a.bracket) (take l.state-index l.states);
-}
