@@ -1,19 +1,24 @@
-"""An until's printed lines against the exact level: what they say must be true of the probabilities, as fractions.
+"""Printed answers against the exact level: what they say must be true of the probabilities, as fractions.
 
 Within a time these are Poisson averages; without a bound they are jump values, and the solution of the linear equations to which
-these rise. The lines of watched brackets need no look of their own, since these lie round that of the state's line.
+these rise. Where operators stand in others the verdicts are held against those that come of the exact probabilities of all of
+them; and where what is known of an operand leaves states open, the bracket must contain the probability for each choice of these
+states. The lines of watched brackets need no look of their own, since these lie round that of the state's line.
 """
 import re
 from fractions import Fraction
+from itertools import islice, product
 from typing import NamedTuple
 
-from exact import reached_at_all, reached_within, reaching, until_averages
-from meaning import COMPARISONS
+from answers import jumps_of, known_of, time_of
+from exact import next_probability, reached_at_all, reached_within, reaching, time_load, until_averages
+from meaning import COMPARISONS, OPERATORS, Known, known_states, operands, operators_of
 from rounded import ONE, greatest_width
 
 UNITS = 10 ** 12
 
 STATE_LINE = re.compile(rb"([0-9]+) (satisfied|refuted|undecided) ([01][.][0-9]{12}) ([01][.][0-9]{12})")
+VERDICT_LINE = re.compile(rb"([0-9]+) (satisfied|refuted|undecided)")
 REPLY = re.compile(rb"^(?=formula |refused )", re.MULTILINE)
 
 # Fractions past these take too long: their numbers have as many digits as there are jumps.
@@ -21,24 +26,29 @@ MOST_STATES = 8
 MOST_JUMPS = 100
 # Jump values are cheaper than averages, and the solution of the equations doesn't ask for jumps.
 MOST_JUMPS_WITHOUT_BOUND = 600
+MOST_OPERATORS = 4
+MOST_CHOICES = 12
 
 
 class Members(NamedTuple):
-    """Of a state: numbers that its bracket must contain, the first of them that at the horizon; numbers round its probability;
-    and how wide the bracket may be."""
+    """Of a state: numbers that its bracket must contain, the first of them at the horizon, by how much the others may be greater,
+    and how wide the bracket may be where it is known which states satisfy the operands."""
     values: list
-    least: Fraction
-    greatest: Fraction
+    past: Fraction
     width: Fraction
 
 
 def is_small(asked):
     """Whether the exact fractions are looked at."""
-    return asked is not None and asked.chain.states <= MOST_STATES and (asked.time is None or asked.horizon() <= MOST_JUMPS)
+    if asked is None or asked.over.chain.states > MOST_STATES:
+        return False
+    found = operators_of(asked.formula)
+    timed = [part for part in found if part.kind == "until" and time_of(part) is not None]
+    return len(found) <= MOST_OPERATORS and all(jumps_of(until, asked.over) <= MOST_JUMPS for until in timed)
 
 
 def untrue_replies(replies, printed):
-    """What is untrue in the printed replies to untils over small chains."""
+    """What is untrue in the printed replies to formulas with operators over small chains."""
     texts = REPLY.split(printed)[1:]
     # Where some reply is missing the bytes differ anyhow, and which is whose isn't clear.
     for reply, text in zip(replies, texts) if len(replies) == len(texts) else ():
@@ -47,77 +57,142 @@ def untrue_replies(replies, printed):
 
 
 def untrue_lines(asked, printed):
-    """For each line of an answered until that says something untrue, what it is."""
-    states = printed.split(b"\n")[2 + asked.options.watch:-1]
-    if len(states) != asked.chain.states:
-        yield f"{len(states)} lines of states, wanted {asked.chain.states}"
+    """For each line of an answer that says something untrue, what it is."""
+    states = state_lines_of(asked, printed)
+    if len(states) != asked.over.chain.states:
+        yield f"{len(states)} lines of states, wanted {asked.over.chain.states}"
         return
-    members = members_without_bound(asked) if asked.time is None else members_within_time(asked)
+    is_shown = asked.formula.kind in OPERATORS
+    truths = true_states(asked.formula, asked.over)
     for state, line in enumerate(states):
-        for what in untrue_of_state(asked, state, line, members[state]):
+        parts = (STATE_LINE if is_shown else VERDICT_LINE).fullmatch(line)
+        if parts is None or int(parts[1]) != state + 1:
+            yield f"line of state {state + 1}: isn't one of its form"
+            return
+        yield from untrue_verdict(parts[2], state, truths)
+    if is_shown:
+        yield from untrue_brackets(asked, [STATE_LINE.fullmatch(line) for line in states])
+
+
+def state_lines_of(asked, printed):
+    lines = printed.split(b"\n")[1:-1]
+    return lines[1 + asked.over.options.watch:] if asked.is_until() else lines
+
+
+def untrue_verdict(said, state, truths):
+    if said == b"satisfied" and state not in truths.may:
+        yield f"line of state {state + 1}: satisfied, and the formula doesn't hold there"
+    if said == b"refuted" and state in truths.must:
+        yield f"line of state {state + 1}: refuted, and the formula holds there"
+
+
+# The meaning of a formula, by exact probabilities.
+
+def true_states(formula, over):
+    """The states where the formula surely holds, and those where it may. What is open here is where an until with a bound on
+    the time hasn't come far enough to tell."""
+    def of_operator(inner, *known):
+        meets, threshold = COMPARISONS[inner.parts[0]], inner.parts[1].fraction()
+        found = [{meets(end, threshold) for end in ends} for ends in zip(*probabilities(inner, over, *known))]
+        return Known(*(frozenset(state for state, ends in enumerate(found) if is_so(ends)) for is_so in (all, any)))
+    return known_states(formula, over.chain.states, over.labels, of_operator)
+
+
+def probabilities(operator, over, *known):
+    """Numbers below and above each state's probability."""
+    if operator.kind == "next":
+        goal, = known
+        return [[next_probability(row, states) for row in over.chain.rows] for states in goal]
+    (live_must, live_may), (goal_must, goal_may) = known
+    time = time_of(operator)
+    if time is None:
+        return reached_at_all(over.chain, live_must, goal_must), reached_at_all(over.chain, live_may, goal_may)
+    last, load = 2 * jumps_of(operator, over), time_load(over.chain, time)
+    (least, _), (most, missing) = (until_averages(over.chain, *sets, load, [last])[last]
+                                   for sets in ((live_must, goal_must), (live_may, goal_may)))
+    return least, [value + missing for value in most]
+
+
+# Brackets, for each choice of what is known of the operands.
+
+def untrue_brackets(asked, lines):
+    known = [known_of(operand, asked.over) for operand in operands(asked.formula)]
+    exact = [true_states(operand, asked.over) for operand in operands(asked.formula)]
+    brackets = [tuple(Fraction(end.decode()) for end in line.groups()[2:]) for line in lines]
+    for choice in choices(known, exact):
+        for state, (bracket, members) in enumerate(zip(brackets, members_of(asked, choice)), 1):
+            for what in untrue_members(bracket, members):
+                yield f"line of state {state}: {what}, with the operands {list(map(sorted, choice))}"
+    narrow, wide = (members_of(asked, sets) for sets in zip(*known))
+    for state, (line, bracket) in enumerate(zip(lines, brackets)):
+        for what in untrue_bracket(asked, known, state, line[2], bracket, narrow[state], wide[state]):
             yield f"line of state {state + 1}: {what}"
 
 
-def members_without_bound(asked):
-    """Each state's members: its values at the horizon and past it, and its probability itself.
+def choices(known, exact):
+    """Lists of sets, one for each operand, that what is known leaves open: the exact ones, where these are found, all that
+    must be, all that may be, and some with one state more than must be."""
+    sides = [dict.fromkeys([one.must, one.may, *(one.must | {state} for state in sorted(one.undecided()))]) for one in known]
+    found = [tuple(one.must for one in exact)] if all(one.is_decided() for one in exact) else []
+    return list(dict.fromkeys([*found, *islice(product(*sides), MOST_CHOICES)]))
+
+
+def untrue_members(bracket, members):
+    low, high = bracket
+    if not all(low <= value <= high for value in members.values):
+        yield "a value from the horizon on isn't in the bracket"
+    if max(members.values) - members.values[0] > members.past:
+        yield "more lies past the horizon than it may"
+
+
+def untrue_bracket(asked, known, state, said, bracket, narrow, wide):
+    """Of the bracket for all choices: `narrow` is for what must be, and `wide` for all that may be."""
+    low, high = bracket
+    # Rounding to twelve decimals adds less than one unit at each end.
+    if high - low >= wide.values[0] - narrow.values[0] + wide.width + Fraction(2, UNITS):
+        yield "the bracket is too wide"
+    if said == b"undecided" and not low <= asked.formula.parts[1].fraction() <= high:
+        yield "undecided, and the threshold isn't in the bracket"
+    if asked.is_until():
+        live, goal = known
+        if state in goal.must and not low == high == 1:
+            yield "a state that is surely of the goal, and the bracket isn't 1 alone"
+        if state not in reaching(asked.over.chain, live.may, goal.may) and not low == high == 0:
+            yield "a state that can't reach the goal, and the bracket isn't 0 alone"
+
+
+def members_of(asked, sets):
+    """Each state's members, with these sets in place of the operands."""
+    chain = asked.over.chain
+    if not asked.is_until():
+        return [Members([next_probability(row, *sets)], Fraction(0), Fraction(0)) for row in chain.rows]
+    time, last = time_of(asked.formula), jumps_of(asked.formula, asked.over)
+    if time is None:
+        return members_without_bound(chain, *sets, last)
+    return members_within_time(chain, *sets, time_load(chain, time), last, asked.over.options.bits)
+
+
+def members_without_bound(chain, live, goal, last):
+    """A state's values at the horizon and past it, and its probability itself.
 
     The bracket may be as wide as the jump values with the start at the goal, and those with the start wherever it can be reached,
     lie apart, and each word may be one unit further off for each jump.
     """
-    last, chain, live, goal = asked.horizon(), asked.chain, asked.live, asked.goal
-    probabilities = reached_at_all(chain, live, goal)
+    found = reached_at_all(chain, live, goal)
     if last > MOST_JUMPS_WITHOUT_BOUND:
-        return [Members([probability], probability, probability, Fraction(1)) for probability in probabilities]
+        return [Members([probability], Fraction(0), Fraction(1)) for probability in found]
     counts = [last, last + 1, 2 * last]
     risen = reached_within(chain, live, goal, goal, counts)
     fallen = reached_within(chain, live, goal, reaching(chain, live, goal), [last])
     members = []
-    for *values, upper, probability in zip(*(risen[count] for count in counts), fallen[last], probabilities):
-        members.append(Members([*values, probability], probability, probability, upper - values[0] + Fraction(2 * last, ONE)))
+    for *values, upper, probability in zip(*(risen[count] for count in counts), fallen[last], found):
+        members.append(Members([*values, probability], Fraction(1), upper - values[0] + Fraction(2 * last, ONE)))
     return members
 
 
-def members_within_time(asked):
-    """Each state's members: averages at the horizon and past it."""
-    last, bits = asked.horizon(), asked.options.bits
+def members_within_time(chain, live, goal, load, last, bits):
+    """A state's averages at the horizon and past it."""
     counts = [last, last + 1, 2 * last]
-    averages = until_averages(asked.chain, asked.live, asked.goal, asked.load(), counts)
-    missing, past_horizon, width = averages[counts[-1]][1], Fraction(1, 2 ** bits), Fraction(greatest_width(last, bits), ONE)
-    columns = zip(*(averages[count][0] for count in counts))
-    return [Members(column, column[-1], min(column[-1] + missing, column[0] + past_horizon), width) for column in columns]
-
-
-def untrue_of_state(asked, state, line, members):
-    parts = STATE_LINE.fullmatch(line)
-    if parts is None:
-        yield "no verdict and bracket"
-        return
-    said, low, high = parts[2], *fractions(parts[3], parts[4])
-    if int(parts[1]) != state + 1:
-        yield "the line is another state's"
-    if not all(low <= value <= high for value in members.values):
-        yield "a value from the horizon on isn't in the bracket"
-    if not members.values[0] <= members.least <= members.greatest:
-        yield "more lies past the horizon than it may"
-    if state in asked.goal and not low == high == 1:
-        yield "a state of the goal, and the bracket isn't 1 alone"
-    # Rounding to twelve decimals adds less than one unit at each end.
-    if high - low >= members.width + Fraction(2, UNITS):
-        yield "the bracket is too wide"
-    yield from untrue_verdict(asked, said, low, high, members)
-
-
-def untrue_verdict(asked, said, low, high, members):
-    """The probability is one of the numbers from `least` to `greatest`; a verdict is untrue where it is so for none of them."""
-    meets, threshold = COMPARISONS[asked.comparison], asked.threshold.fraction()
-    ends = {meets(end, threshold) for end in (members.least, members.greatest)}
-    if said == b"satisfied" and ends == {False}:
-        yield "satisfied, and the probability doesn't meet the threshold"
-    if said == b"refuted" and ends == {True}:
-        yield "refuted, and the probability meets the threshold"
-    if said == b"undecided" and not low <= threshold <= high:
-        yield "undecided, and the threshold isn't in the bracket"
-
-
-def fractions(low, high):
-    return Fraction(low.decode()), Fraction(high.decode())
+    averages = until_averages(chain, live, goal, load, counts)
+    past, width = Fraction(1, 2 ** bits), Fraction(greatest_width(last, bits), ONE)
+    return [Members(list(values), past, width) for values in zip(*(averages[count][0] for count in counts))]

@@ -2,19 +2,21 @@
 from fractions import Fraction
 from typing import NamedTuple, Optional
 
+from answers import MOST_JUMPS, MOST_WORDS
 from changed_text import changed_bytes, odd_end_of_line, odd_end_of_text
 from command import RANGES, Options, options_of
 from damage import DAMAGES, two_damages
 from decimals import Decimal, decimal_of_units
 from draw_formulas import (EVERYWHERE, draw_live, draw_unbounded, draw_within, has_barred_way, has_choice, has_way, spelled_formula,
                            unsettled_states, until_of)
-from draw_inputs import OTHER_INPUTS, many_lines, next_line, one_line, plain_line, unbounded_line, unbuilt_line, until_line
+from draw_inputs import (OTHER_INPUTS, deepest_line, many_lines, nested_operators_line, next_line, one_line, plain_line,
+                         unbounded_line, unbuilt_line, until_line)
 from draw_lines import COMPARISONS
 from draw_models import LINES_OF, Draft, draw_draft, draw_marks, draw_names, laid_out, limit_model
+from draw_nested import draw_joined, draw_limited, draw_nested
 from draw_words import (FILE_NAMES, NO_COMMANDS, NO_FILE_NAMES, NO_OPTIONS, OPTION_WRONGS, WORDS, draw_jumps, draw_options,
                         draw_workers, ends_of_range, words_of_command)
 from draws import Draws
-from expected import MOST_JUMPS, MOST_WORDS
 from language import Formula
 from model_files import FILE_LIMIT, MOST_STATES, Chain, FileFault, Labels, read_lab, read_tra
 
@@ -138,12 +140,12 @@ def most_jumps(draws):
     return until_case(draws, states, draw_unbounded, {**draw_options(draws, states), b"--jumps": MOST_JUMPS})
 
 
-def raced_until(draw_states):
+def raced_until(draw_states, *draw_formulas):
     """An until over several blocks of 64 states, so that more than one worker has something to do; often with many watch lines."""
     def case(draws):
         states = draw_states(draws)
         given = {**draw_options(draws, states), b"--workers": draw_workers(draws), b"--watch": draws.one_of([0, 3, 100, 1000])}
-        draw_formula = draws.one_of([draw_within(40), draw_unbounded])
+        draw_formula = draws.one_of(draw_formulas or [draw_within(40), draw_unbounded])
         return until_case(draws, states, draw_formula, {**given, b"--state": draws.between(1, states)})
     return case
 
@@ -156,8 +158,52 @@ def many_blocks(draws):
     return draws.between(1000, 2000)
 
 
+# Operators in one another.
+
+def nested_case(draw_formula, draw_states):
+    """Often with watch lines, which an operator inside another one has none of."""
+    def case(draws):
+        states = draw_states(draws)
+        given = draw_options(draws, states)
+        watched = {b"--watch": draws.between(1, 4), b"--state": draws.between(1, states)}
+        return until_case(draws, states, draw_formula, draws.one_of([given, {**given, **watched}]))
+    return case
+
+
+def few_states(draws):
+    return draws.mostly(draws.between(3, 6), 1, 2, 8)
+
+
+def more_states(draws):
+    return draws.between(7, 40)
+
+
+def nested_over_blocks(draws):
+    """Over several blocks, by workers and with watch lines."""
+    return raced_until(few_blocks, draw_nested(2))(draws)
+
+
+def refused_operator(draws):
+    """Some of the untils in a formula are too long or too large: the first of them is told."""
+    states = draws.one_of([2, 600, 3000])
+
+    def line(draws, model, options):
+        return spelled_formula(draws, draw_limited(draws, model.labels.names, 4))
+    return large_case(draws, states, line, MOST_JUMPS)
+
+
+def deepest_case(draws):
+    """A formula as deep as one can be, mostly with a name of one letter."""
+    model = draw_model_with(draws, draws.between(2, 4), has_short_name)
+    return case_of(draws, model, one_line(deepest_line), given={})
+
+
+def has_short_name(model):
+    return any(len(name) == 1 for name in model.labels.names)
+
+
 def some_line(draws, model, options):
-    return draws.one_of([next_line, until_line, unbounded_line])(draws, model, options)
+    return draws.one_of([next_line, until_line, unbounded_line, nested_operators_line])(draws, model, options)
 
 
 def greatest_sums(draws):
@@ -432,6 +478,13 @@ def answer_kinds():
     yield "unbounded until a jump too large", [unbounded_until_of_most_words(most_states=True, beyond=True),
                                                *[unbounded_until_of_most_words(beyond=True)] * 2, default_jumps_at_most_words(beyond=True)]
     yield "not built and too large", [unbuilt_and_too_large]
+    yield "two levels of operators", [nested_case(draw_nested(2), few_states)] * 40
+    yield "three levels of operators", [nested_case(draw_nested(3), few_states)] * 20
+    yield "operators joined", [nested_case(draw_joined(levels), few_states) for levels in (1, 1, 1, 2)] * 6
+    yield "operators over more states", [nested_case(draw, more_states) for draw in (draw_nested(2), draw_joined(2))] * 3
+    yield "operators over several blocks", [nested_over_blocks] * 4
+    yield "operator that is refused", [refused_operator] * 20
+    yield "deepest formula", [deepest_case] * 8
 
 
 def input_kinds():

@@ -1,12 +1,16 @@
-"""Formulas over a model: with thresholds at and near the numbers that decide them, and formulas that aren't built."""
+"""Formulas over a model: with thresholds at and near the numbers that decide them, and formulas that aren't built.
+
+A model is anything that has a chain and labels.
+"""
 import math
 from fractions import Fraction
 
+from answers import NoPlan, Over, answer_of, known_of
 from decimals import Decimal, decimal_of_units
 from draw_lines import COMPARISONS, PLAIN_KINDS, draw_leaf, draw_tree, line_of, threshold, tokens_of
 from exact import greatest_exit_rate, next_probability, reaching
 from language import Formula
-from meaning import satisfying
+from meaning import known_states
 from rounded import ONE, until_words
 
 FINEST = 10 ** 18
@@ -28,7 +32,7 @@ def draw_plain(draws, names, greatest=5):
 
 
 def states_of(model, formula):
-    return satisfying(formula, model.chain.states, model.labels)
+    return known_states(formula, model.chain.states, model.labels).must
 
 
 # Next operators.
@@ -58,10 +62,15 @@ def has_choice(model):
 # Untils within a time, and without a bound where in place of the time there is None.
 
 def draw_until(draws, model, time, options):
-    """An until, mostly with its threshold in a state's bracket or beside one of its ends."""
     live, goal = draw_way(draws, model)
-    words = until_words(model.chain, states_of(model, live), states_of(model, goal), time, options)
-    words = draws.mostly([pair for pair in words if 0 < pair[0] < ONE], words) or words
+    return until_over(draws, Over(model.chain, model.labels, options), live, time, goal)
+
+
+def until_over(draws, over, live, time, goal):
+    """An until, mostly with its threshold in a state's bracket or beside one of its ends."""
+    words = until_words(over.chain, known_of(live, over), known_of(goal, over), time, over.options)
+    wide = [pair for pair in words if pair[0] < pair[1]]
+    words = draws.mostly([pair for pair in words if 0 < pair[0] < ONE], wide, words) or wide or words
     units = draws.one_of([at_last_bit, inside, inside, beside_printed, any_units])(draws, words)
     return until_of(draws.one_of(COMPARISONS), threshold_of(units), live, time, goal)
 
@@ -77,9 +86,13 @@ def draw_unbounded(draws, model, options):
 
 def unsettled_states(model, formula, options):
     """The states, from 1, of which an until's two words differ."""
-    _, _, live, bound, goal = formula.parts
-    words = until_words(model.chain, states_of(model, live), states_of(model, goal), bound and bound[1], options)
-    return [state for state, (lower, upper) in enumerate(words, 1) if lower < upper]
+    try:
+        answer = answer_of(formula, Over(model.chain, model.labels, options))
+    except NoPlan:
+        return []
+    if answer.horizon is None:
+        return []
+    return [state for state, (lower, upper, _) in enumerate(answer.brackets, 1) if lower < upper]
 
 
 def until_of(comparison, limit, live, time, goal):
@@ -187,7 +200,7 @@ def time_at_most(draws, time):
     return decimal_of_units(max(0, units - draws.mostly(0, 1)), decimals)
 
 
-# Formulas that aren't built: each is but one step from one that is.
+# Formulas of any kind, with thresholds that know nothing of the chain.
 
 def draw_operator(draws, names):
     """A next, or an until within a time or without a bound, of any kind."""
@@ -198,30 +211,29 @@ def draw_operator(draws, names):
     return until_of(*front, draw_plain(draws, names), time, draw_plain(draws, names))
 
 
-def operator_within(draws, names):
-    """An operator below another one's next or until; with it also a time that alone would be too long."""
-    inner, other, front = draw_operator(draws, names), draw_plain(draws, names), (draws.one_of(COMPARISONS), threshold(draws))
-    time = draws.one_of([Decimal(1, 0), Decimal(10 ** 17, 0), None])
-    return draws.one_of([Formula("next", (*front, inner)), until_of(*front, inner, time, other), until_of(*front, other, time, inner)])
-
-
-def operator_below_connective(draws, names):
-    inner, other = draw_operator(draws, names), draw_plain(draws, names)
-    return draws.one_of([Formula("not", (inner,)), Formula("and", (inner, other)), Formula("or", (other, inner))])
-
-
-def bound_on_reward(draws, names):
-    """The rewards may be 0, or none may be given."""
+def too_long_until(draws, names):
+    """An until past the limit of jumps, where some rate is no small one."""
     live, goal = draw_plain(draws, names), draw_plain(draws, names)
-    bound = "reward", draws.one_of([Decimal(draws.below(100), 0), threshold(draws), Decimal(10 ** 17, 0)])
-    return Formula("until", (draws.one_of(COMPARISONS), threshold(draws), live, bound, goal))
+    return until_of(draws.one_of(COMPARISONS), threshold(draws), live, Decimal(10 ** 18 - 1, draws.below(3)), goal)
 
 
-def operator_deep_below(draws, names):
-    """Operators in a formula of any size."""
-    parts = [draw_tree(draws, draws.between(1, 6), names) for _ in range(2)]
-    return Formula(draws.one_of(["and", "or"]), (draw_operator(draws, names), draws.one_of(parts)))
+def draw_around(draws, inner, other):
+    """A formula in which the inner one stands below one connective or operator more, mostly beside the other one."""
+    front = draws.one_of(COMPARISONS), threshold(draws)
+    time = draws.one_of([Decimal(draws.below(4), 0), None])
+    pair = draws.one_of([(inner, other), (other, inner)])
+    return draws.one_of([
+        Formula("not", (inner,)), Formula("and", pair), Formula("or", pair), Formula("next", (*front, inner)),
+        until_of(*front, pair[0], time, pair[1]),
+    ])
 
 
 def draw_unbuilt(draws, names):
-    return draws.one_of([operator_within, operator_below_connective, bound_on_reward, operator_deep_below])(draws, names)
+    """A bound on the reward, often deep in a formula, beside which something may be too long. The rewards may be 0, or none may
+    be given."""
+    live, goal = draw_plain(draws, names), draw_plain(draws, names)
+    bound = "reward", draws.one_of([Decimal(draws.below(100), 0), threshold(draws), Decimal(10 ** 17, 0)])
+    formula = Formula("until", (draws.one_of(COMPARISONS), threshold(draws), live, bound, goal))
+    for _ in range(draws.one_of([0, 1, 1, 2, 5])):
+        formula = draw_around(draws, formula, draws.one_of([draw_plain, draw_operator, too_long_until])(draws, names))
+    return formula

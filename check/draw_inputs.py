@@ -6,14 +6,15 @@ from changed_text import changed_bytes
 from command import Options
 from decimals import Decimal, canonical_text
 from draw_formulas import (draw_next, draw_operator, draw_plain, draw_unbounded, draw_unbuilt, draw_within, spelled_formula,
-                           until_of)
-from draw_lines import COMPARISONS, draw_leaf, draw_line, nested, threshold
+                           too_long_until)
+from draw_lines import COMPARISONS, draw_leaf, draw_line, nested
 from draw_models import blank_lines
+from draw_nested import draw_joined, draw_nested, draw_some_operators
 from draw_numbers import no_number, spelled, too_big, too_fine
 from expected import INPUT_LIMIT
-from language import MOST_BYTES, Formula, canonical_line
+from language import MOST_BYTES, MOST_NESTED, canonical_line
 
-# Lines over the label a, all but a few of which are of a form that isn't answered, or of none.
+# Lines over the label a, many of which are of a form that isn't answered, or of none.
 OTHER_FORMS = [
     b"P{>=0.5}[tt U a]", b"P{>=0.5}[tt U[0,~] a]", b"P{>=0.5}[tt U[0,~][0,1] a]", b"P{>=0.5}[tt U[0,1][0,1] a]",
     b"P{>=0.5}[tt U[1,2] a]", b"P{>=0.5}[tt U[0.0,1] a]", b"P{>=0.5}[tt U[00,1] a]", b"P{>=0.5}[tt U[0,] a]", b"P{>=0.5}[tt U[,1] a]",
@@ -29,6 +30,9 @@ OTHER_FORMS = [
     b"QUIT", b"quit;", b"quit\r", b"\r", b"\x0b", b"\xc2\xa0",
 ]
 FORMS_AN_INPUT = 8
+
+# Over more states it takes too long to know an operator's brackets already where the formula is drawn.
+MOST_STATES_KNOWN = 300
 
 QUITS = [b"quit", b"quit", b" quit", b"quit\t", b"\t quit  "]
 
@@ -51,6 +55,18 @@ def unbounded_line(draws, model, options):
     return spelled_formula(draws, draw_unbounded(draws, model, options))
 
 
+def nested_operators_line(draws, model, options):
+    """Over many states with thresholds that know nothing of the chain."""
+    if model.chain.states > MOST_STATES_KNOWN:
+        return some_operators_line(draws, model, options)
+    draw = draws.one_of([draw_nested(2), draw_joined(1), draw_joined(2)])
+    return spelled_formula(draws, draw(draws, model, options))
+
+
+def some_operators_line(draws, model, options):
+    return spelled_formula(draws, draw_some_operators(draws, model.labels.names))
+
+
 def unbuilt_line(draws, model, options):
     return spelled_formula(draws, draw_unbuilt(draws, model.labels.names))
 
@@ -61,9 +77,7 @@ def drawn_line(draws, model, options):
 
 
 def too_long_line(draws, model, options):
-    """An until past the limit of jumps, where some rate isn't 0."""
-    live, goal = draw_plain(draws, model.labels.names), draw_plain(draws, model.labels.names)
-    return spelled_formula(draws, until_of(draws.one_of(COMPARISONS), threshold(draws), live, Decimal(10 ** 18 - 1, draws.below(3)), goal))
+    return spelled_formula(draws, too_long_until(draws, model.labels.names))
 
 
 def changed_line(draws, model, options):
@@ -86,8 +100,8 @@ def above_one(draws):
     return spelled(draws, draws.one_of([Decimal(2, 0), Decimal(10 ** 17 + 1, 17), Decimal(10 ** 18 - 1, 0), Decimal(101, 2)]))
 
 
-ANSWERED_LINES = [plain_line, next_line, until_line, unbounded_line]
-LINES = [*ANSWERED_LINES, unbuilt_line, drawn_line, too_long_line, changed_line, number_line]
+ANSWERED_LINES = [plain_line, next_line, until_line, unbounded_line, nested_operators_line]
+LINES = [*ANSWERED_LINES, some_operators_line, unbuilt_line, drawn_line, too_long_line, changed_line, number_line]
 
 
 # Lines at the limit of their length.
@@ -116,6 +130,14 @@ def long_chain(draws, model, size):
     while len(line) + 3 + len(part) <= size:
         line += draws.mostly(b"&&", b"||", b"&&!") + part
     return filled(draws, line, size)
+
+
+def deepest_line(draws, model, options):
+    """As many `!` or operators in one another as may be, or none, and within them the longest chain for which there is room."""
+    front, back = draws.one_of([(b"", b""), (b"!", b""), (b"P{>0}[X ", b"]"), (b"P{>0}[tt U ", b"]"), (b"P{<1}[", b" U tt]")])
+    part = draws.one_of([b"&&", b"||"]) + min([b"tt", *model.labels.names], key=len)
+    room = MOST_BYTES - MOST_NESTED * len(front + back)
+    return front * MOST_NESTED + (part * ((room + 2) // len(part)))[2:] + back * MOST_NESTED
 
 
 def any_line_filled(draws, model, size):

@@ -13,10 +13,14 @@ def greatest_exit_rate(chain):
     return max(map(exit_rate, chain.rows))
 
 
+def rate_into(row, goal):
+    """The rate at which the row's state moves to a state of the goal."""
+    return sum(rate for target, rate in row if target in goal)
+
+
 def next_probability(row, goal):
     """The probability that the next state is in the goal: 0 where no state is next."""
-    into = sum(rate for target, rate in row if target in goal)
-    return Fraction(into, max(1, exit_rate(row)))
+    return Fraction(rate_into(row, goal), max(1, exit_rate(row)))
 
 
 def time_load(chain, time):
@@ -100,7 +104,7 @@ def equation_of(row, state, moving, goal):
     """The factors of the moving states' probabilities, and at the end the sum that they come to."""
     rates = dict(row)
     factors = [Fraction((other == state) * exit_rate(row) - rates.get(other, 0)) for other in moving]
-    return factors + [Fraction(sum(rate for target, rate in row if target in goal))]
+    return factors + [Fraction(rate_into(row, goal))]
 
 
 def until_averages(chain, live, goal, load, counts):

@@ -1,17 +1,15 @@
 """What the program must print and end with, from the words, the files and the formula input alone."""
 from typing import NamedTuple, Optional
 
-from command import NoCommand, Options, read_command
-from decimals import Decimal, twelve_decimals
-from exact import horizon, next_probability, time_load
-from language import LineFault, canonical_line, read_line
-from meaning import COMPARISONS, is_built, satisfying
-from model_files import Chain, FileFault, lines_of, read_lab, read_rew, read_tra, words_of
-from rounded import ONE, divide_up, until_words
+from answers import NoPlan, Over, answer_of
+from command import NoCommand, read_command
+from decimals import twelve_decimals
+from language import Formula, LineFault, canonical_line, read_line
+from meaning import OPERATORS, has_operator, is_built, is_nested
+from model_files import FileFault, lines_of, read_lab, read_rew, read_tra, words_of
+from rounded import divide_up
 
 INPUT_LIMIT = 2 ** 20
-MOST_JUMPS = 16_384
-MOST_WORDS = 2 ** 23
 UNITS = 10 ** 12
 
 USAGE = (b"usage: mrmc_any (ctmc M.tra M.lab | cmrm M.tra M.lab M.rew) [--workers 1..64] [--bits 8..48] [--jumps 1..16384]"
@@ -31,33 +29,23 @@ KINDS = [
     *(f"refused {file} {what}" for file, faults in FILE_FAULTS.items() for what in faults),
     *(f"missing {file}" for file in FILE_FAULTS), "input failed", "output failed",
 ]
-ANSWERS = ["without operator", "next", "until within a time", "until without a bound"]
+OPERATOR_ANSWERS = ["next", "until within a time", "until without a bound"]
+NESTED = ", over operators"
+ANSWERS = ["without operator", *OPERATOR_ANSWERS, *(kind + NESTED for kind in OPERATOR_ANSWERS), "operators joined"]
 REFUSALS = ["NotBuilt", "TooLong", "TooLarge", "Length", "Token", "Number", "Expected", "UnknownLabel", "Threshold", "Depth"]
 
 
 class Asked(NamedTuple):
-    """An until that is answered: over which chain and sets of states, and with which options. One without a bound has no
-    time."""
-    chain: Chain
-    live: frozenset
-    goal: frozenset
-    time: Optional[Decimal]
-    comparison: bytes
-    threshold: Decimal
-    options: Options
+    """A formula with a probability operator that is answered, and over what."""
+    formula: Formula
+    over: Over
 
-    def load(self):
-        return time_load(self.chain, self.time)
-
-    def horizon(self):
-        return self.options.jumps if self.time is None else horizon(self.load(), self.options.bits)
-
-    def words(self):
-        return until_words(self.chain, self.live, self.goal, self.time, self.options)
+    def is_until(self):
+        return self.formula.kind == "until"
 
 
 class Reply(NamedTuple):
-    """What is printed to one line of the input: of which kind it is, for counting, and of an until what was asked."""
+    """What is printed to one line of the input: of which kind it is, for counting, and what was asked where it has an operator."""
     kind: str
     text: bytes
     asked: Optional[Asked] = None
@@ -141,69 +129,49 @@ def reply_to(number, line, chain, labels, options):
         return refusal(number, fault.what, b"column %d " % fault.column)
     if not is_built(formula):
         return refusal(number, "NotBuilt")
-    if formula.kind == "next":
-        return next_reply(formula, chain, labels)
-    if formula.kind == "until":
-        return until_reply(number, formula, chain, labels, options)
-    verdicts = said_of(satisfying(formula, chain.states, labels), chain.states)
-    return Reply("without operator", answer_text(formula, (b"%d %s\n" % numbered for numbered in enumerate(verdicts, 1))))
+    over = Over(chain, labels, options)
+    try:
+        answer = answer_of(formula, over)
+    except NoPlan as refused:
+        return refusal(number, *refused.args)
+    text = b"formula %s\n" % canonical_line(formula) + b"".join(answer_lines(answer, over))
+    return Reply(kind_of(formula), text, Asked(formula, over) if has_operator(formula) else None)
 
 
 def refusal(number, what, place=b""):
     return Reply(what, b"refused line %d %s%s\n" % (number, place, what.encode()))
 
 
-def said_of(satisfied, states):
-    return (b"satisfied" if state in satisfied else b"refuted" for state in range(states))
+def kind_of(formula):
+    """The kind of a formula that is answered, one of `ANSWERS`."""
+    if formula.kind not in OPERATORS:
+        return "operators joined" if has_operator(formula) else "without operator"
+    kind = formula.kind
+    if kind == "until":
+        kind += " within a time" if formula.parts[3] else " without a bound"
+    return kind + NESTED if is_nested(formula) else kind
 
 
-def next_reply(formula, chain, labels):
-    comparison, threshold, operand = formula.parts
-    goal = satisfying(operand, chain.states, labels)
-    probabilities = [next_probability(row, goal) for row in chain.rows]
-    meets, limit = COMPARISONS[comparison], threshold.fraction()
-    verdicts = [b"satisfied" if meets(probability, limit) else b"refuted" for probability in probabilities]
-    brackets = [rounded_out(probability.numerator, probability.numerator, probability.denominator) for probability in probabilities]
-    return Reply("next", answer_text(formula, state_lines(verdicts, brackets)))
-
-
-def until_reply(number, formula, chain, labels, options):
-    comparison, threshold, live, bound, goal = formula.parts
-    live, goal = (satisfying(operand, chain.states, labels) for operand in (live, goal))
-    asked = Asked(chain, live, goal, bound and bound[1], comparison, threshold, options)
-    # Without a bound it is the number of the option, which is in the range.
-    last = asked.horizon()
-    if last > MOST_JUMPS:
-        return refusal(number, "TooLong")
-    if (last + 1) * chain.states > MOST_WORDS:
-        return refusal(number, "TooLarge")
-    words = asked.words()
-    verdicts = [verdict(comparison, threshold, *pair) for pair in words]
-    brackets = [rounded_out(*pair, ONE) for pair in words]
+def answer_lines(answer, over):
+    """The lines of an answer behind that of the formula."""
+    verdicts = [verdict(answer.known, state) for state in range(over.chain.states)]
+    if answer.brackets is None:
+        return [b"%d %s\n" % numbered for numbered in enumerate(verdicts, 1)]
+    brackets = [rounded_out(*bracket) for bracket in answer.brackets]
+    lines = [b"%d %s %s %s\n" % (number, said, *bracket) for number, (said, bracket) in enumerate(zip(verdicts, brackets), 1)]
+    if answer.horizon is None:
+        return lines
     # These are right, but only the last of them must be so; see watch_lines.py.
-    watched = [b"watch %d %s %s\n" % (place, *brackets[options.state - 1]) for place in range(1, options.watch + 1)]
-    text = answer_text(formula, [b"horizon %d\n" % last, *watched, *state_lines(verdicts, brackets)])
-    return Reply("until within a time" if bound else "until without a bound", text, asked)
+    watched = [b"watch %d %s %s\n" % (place, *brackets[over.options.state - 1]) for place in range(1, over.options.watch + 1)]
+    return [b"horizon %d\n" % answer.horizon, *watched, *lines]
 
 
-def verdict(comparison, threshold, lower, upper):
-    """What the bracket of two words says: whether all numbers between them meet the threshold, or none."""
-    meets = COMPARISONS[comparison]
-    # Compared crosswise. What holds at both ends holds between them, and so does its contrary.
-    ends = {meets(word * 10 ** threshold.x, threshold.c * ONE) for word in (lower, upper)}
-    if len(ends) == 2:
-        return b"undecided"
-    return b"satisfied" if True in ends else b"refuted"
+def verdict(known, state):
+    if state in known.must:
+        return b"satisfied"
+    return b"undecided" if state in known.may else b"refuted"
 
 
 def rounded_out(lower, upper, whole):
     """The two numbers, parts of a whole, as they are printed: rounded down and up to twelve decimals."""
     return twelve_decimals(lower * UNITS // whole), twelve_decimals(divide_up(upper * UNITS, whole))
-
-
-def state_lines(verdicts, brackets):
-    return (b"%d %s %s %s\n" % (number, said, *bracket) for number, (said, bracket) in enumerate(zip(verdicts, brackets), 1))
-
-
-def answer_text(formula, lines):
-    return b"formula %s\n" % canonical_line(formula) + b"".join(lines)

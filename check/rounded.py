@@ -1,6 +1,7 @@
 """The rounded level: words of 2^-62, rounded down or up at every step, of which the printed bytes are a function."""
 import functools
 import math
+import operator
 
 from exact import horizon, reaching, time_load, uniformised
 
@@ -58,7 +59,8 @@ class Mix:
 
 def until_words(chain, live, goal, time, options):
     """Each state's two words, round the probability of reaching the goal by live states: within the time, or at all where it
-    is None."""
+    is None. Of both sets it is told what is known: the lower words are those of the states that must be in them, and the upper
+    ones those of the states that may be."""
     if time is None:
         return last_words(chain, live, goal, options.jumps)
     return mixed_words(chain, live, goal, time, options.bits)
@@ -70,13 +72,13 @@ def mixed_words(chain, live, goal, time, bits):
     load = time_load(chain, time)
     last = horizon(load, bits)
     mix = Mix(load, last, bits)
-    words, moving = settled_words(chain, live, goal)
-    low_sums, high_sums = dict.fromkeys(moving, 0), dict.fromkeys(moving, 0)
-    for jumps, (low, high) in enumerate(layers(chain, goal, goal, moving, last)):
-        for state in moving:
+    words, unsettled = settled_words(chain, live, goal)
+    low_sums, high_sums = dict.fromkeys(unsettled, 0), dict.fromkeys(unsettled, 0)
+    for jumps, (low, high) in enumerate(both_layers(chain, live, goal, goal.may, last)):
+        for state in unsettled:
             low_sums[state] += mix.low_term(jumps, low[state])
             high_sums[state] += mix.high_term(jumps, high[state])
-    for state in moving:
+    for state in unsettled:
         words[state] = mix.words(low_sums[state], high_sums[state])
     return words
 
@@ -84,35 +86,42 @@ def mixed_words(chain, live, goal, time, bits):
 @functools.lru_cache(maxsize=32)
 def last_words(chain, live, goal, last):
     """A state's words after the last jump, where the upper ones are 1 before the first wherever the goal can be reached."""
-    words, moving = settled_words(chain, live, goal)
-    for low, high in layers(chain, goal, goal.union(moving), moving, last):
+    words, unsettled = settled_words(chain, live, goal)
+    for low, high in both_layers(chain, live, goal, reaching(chain, live.may, goal.may), last):
         pass
-    for state in moving:
+    for state in unsettled:
         words[state] = low[state], high[state]
     return words
 
 
 def settled_words(chain, live, goal):
-    """The words of the states of the goal and of those from which it can't be reached, and which states are neither.
+    """The words of the states that are surely of the goal and of those from which no state that may be can be reached; and which
+    states are neither.
 
     The words of the settled states are the same after each jump, so these need no steps; in a large chain with few transitions
     they are nearly all."""
-    moving = sorted(reaching(chain, live, goal) - goal)
-    return [(ONE, ONE) if state in goal else (0, 0) for state in range(chain.states)], moving
+    unsettled = sorted(reaching(chain, live.may, goal.may) - goal.must)
+    return [(ONE, ONE) if state in goal.must else (0, 0) for state in range(chain.states)], unsettled
 
 
-def layers(chain, start_low, start_high, moving, last):
-    """For 0 to `last` jumps the lower and the upper words of all states, from 1 on the two starts and 0 elsewhere; those that
-    aren't moving keep theirs. The lists are the same ones each time."""
+def both_layers(chain, live, goal, start_high, last):
+    """For 0 to `last` jumps the lower and the upper words of all states."""
+    lower = layers(chain, live.must, goal.must, goal.must, last, operator.floordiv)
+    return zip(lower, layers(chain, live.may, goal.may, start_high, last, divide_up))
+
+
+def layers(chain, live, goal, start, last, divide):
+    """For 0 to `last` jumps the words of all states, from 1 on the start and 0 elsewhere, rounded by this division. The words of
+    the goal, and those of the states that can't reach it, stay as they are. The list is the same one each time."""
     weights, total = uniformised(chain)
-    low, high = ([ONE if state in start else 0 for state in range(chain.states)] for start in (start_low, start_high))
-    yield low, high
+    moving = sorted(reaching(chain, live, goal) - goal)
+    words = [ONE if state in start else 0 for state in range(chain.states)]
+    yield words
     for _ in range(last):
-        next_low = [sum(share * low[target] for target, share in weights[state]) // total for state in moving]
-        next_high = [divide_up(sum(share * high[target] for target, share in weights[state]), total) for state in moving]
-        for state, lower, upper in zip(moving, next_low, next_high):
-            low[state], high[state] = lower, upper
-        yield low, high
+        moved = [divide(sum(share * words[target] for target, share in weights[state]), total) for state in moving]
+        for state, word in zip(moving, moved):
+            words[state] = word
+        yield words
 
 
 def slack(last, bits):
