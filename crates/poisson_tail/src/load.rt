@@ -8,7 +8,8 @@ ghost use Rattle.ctmc_semantics.specs.Weights.{mode, fine_load};
 use std::marker::Model;
 
 /// The load of a bounded until, as a fraction: the number of jumps that the uniformised chain is
-/// expected to make within the bound, which is its uniform rate times the time.
+/// expected to make within the bound, which is its uniform rate times the time, or times the reward
+/// where rewards are the clock. It is 0 where no state is left.
 /// (Jensen 1953; Baier, Haverkort, Hermanns, Katoen 2003)
 #[derive(Clone, Copy, Debug)]
 pub struct Load {

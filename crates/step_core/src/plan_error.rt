@@ -11,8 +11,8 @@ pub enum PlanError {
     NoRewards,
     /// A reward bound, and this state, counted from 0, is the first with the reward 0.
     ZeroReward(u32),
-    /// A reward bound, and this state's reward times the greatest exit rate per reward passes 63
-    /// bits.
+    /// A reward bound, and this state's reward times the exit rate of the state that is left fastest
+    /// for each unit of reward passes 63 bits.
     RewardRange(u32),
     /// The reward bound's load doesn't fit a load's numbers.
     BoundRange,
