@@ -1,5 +1,5 @@
 -- The truth values of the worked formulas.
-use Rattle.std.proofs.Common.{◌≡◌, ℕ, zero, suc, ◌*◌, ◌-◌, ◌^◌, ◌<◌, ◌↔◌, Bool, true, false, IsTrue, List, [], ◌∷◌, refl, sym, ap, subst, arith}
+use Rattle.std.proofs.Common.{◌≡◌, ℕ, zero, suc, cond, eqb, ◌*◌, ◌-◌, ◌^◌, ◌<◌, ◌↔◌, Bool, true, false, IsTrue, List, [], ◌∷◌, refl, sym, ap, subst, arith}
 use Rattle.std.proofs.lemmas.Bool.{false≢true}
 use Rattle.ctmc_semantics.specs.Fraction.{Fraction, fraction, ◌≺◌}
 use Rattle.ctmc_semantics.specs.JumpValue.{jump_value}
@@ -8,9 +8,10 @@ use Rattle.ctmc_semantics.specs.Sets.{holds_at}
 use Rattle.ctmc_semantics.specs.Sum.{sum_below}
 use Rattle.ctmc_semantics.specs.Uniformised.{uniformised}
 use Rattle.ctmc_semantics.specs.Value.{IsAbove, IsAtLeast}
-use Rattle.csl_semantics.specs.Meaning.{IsSat, HoldsExactly, reach_values, time_values}
-use Rattle.csl_semantics.specs.WorkedMeanings.{worked_chain, one, next_a}
-use Rattle.csl_semantics.specs.WorkedMeanings.{NextMeaning, TimeUntilMeaning, ReachUntilMeaning, NestedMeaning}
+use Rattle.csl_semantics.specs.Dual.{EarnsEverywhere, dual}
+use Rattle.csl_semantics.specs.Meaning.{IsSat, HoldsExactly, reach_values, reward_values, time_values}
+use Rattle.csl_semantics.specs.WorkedMeanings.{worked_chain, earning_chain, one, two, next_a}
+use Rattle.csl_semantics.specs.WorkedMeanings.{NextMeaning, TimeUntilMeaning, ReachUntilMeaning, RewardUntilMeaning, NestedMeaning}
 use Rattle.csl_semantics.proofs.Truths.{truths_stand}
 use Rattle.csl_syntax.specs.Tree.{truth, label}
 
@@ -72,6 +73,49 @@ soon_stands = record {
   holds = three _ true true false ((λ _. (2, omega arith)), (λ _. refl)) ((λ _. (0, omega arith)), (λ _. refl))
       ((λ e. absurd (false≢true e)), (λ above. absurd (not_soon above)));
 }
+
+-- ---- the until with a bound on the reward
+either_earns : (b : Bool) → 0 < cond b 2 1
+either_earns true = omega arith
+either_earns false = omega arith
+
+abbrev earns : EarnsEverywhere earning_chain
+earns = record {
+  rewards = record { decimals = 0; reward = λ s. cond (eqb s 0) 2 1 };
+  are = refl;
+  positive = λ s l. either_earns (eqb s 0);
+}
+
+abbrev cheaply : ℕ → ℕ → Fraction
+cheaply = reward_values earning_chain earns.rewards two (holds_at all) (holds_at second)
+
+abbrev dual_values : ℕ → ℕ → ℕ
+dual_values = jump_value (uniformised (dual earning_chain.chain earns.rewards.reward)) (holds_at all) (holds_at second)
+
+never_dual : (k : ℕ) → dual_values k 2 ≡ 0
+never_dual zero = refl
+never_dual (suc k) = omega (arith, never_dual k)
+
+not_cheaply : ¬ IsAbove (cheaply 2) (fraction 5 10)
+not_cheaply above =
+    omega (
+      arith,
+      above.1,
+      no_sum (suc above.0) (poisson_weight 2 2 above.0) (λ k. dual_values k 2) (λ k. 1 ^ (above.0 - k)) never_dual,
+    )
+
+pub cheaply_stands : RewardUntilMeaning
+cheaply_stands = (
+  earns,
+  record {
+    left = all;
+    right = second;
+    stands_left = truths_stand earning_chain truth refl;
+    stands_right = truths_stand earning_chain (label 0) refl;
+    holds = three _ true true false ((λ _. (2, omega arith)), (λ _. refl)) ((λ _. (0, omega arith)), (λ _. refl))
+        ((λ e. absurd (false≢true e)), (λ above. absurd (not_cheaply above)));
+  },
+)
 
 -- ---- the until without a bound
 abbrev surely : ℕ → ℕ → Fraction

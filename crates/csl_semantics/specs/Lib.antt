@@ -1,3 +1,4 @@
+pub mod Dual
 pub mod Meaning
 pub mod Laws
 -- what is computed

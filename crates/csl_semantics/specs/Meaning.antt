@@ -11,12 +11,13 @@ use Rattle.ctmc_semantics.specs.Threshold
 use Rattle.ctmc_semantics.specs.Threshold.{Comparison, MeetsThreshold}
 use Rattle.ctmc_semantics.specs.Uniformised.{time_load, uniformised}
 use Rattle.ctmc_semantics.specs.Value.{ValueMeets}
+use Rattle.csl_semantics.specs.Dual.{EarnsEverywhere, dual, reward_load}
 use Rattle.csl_syntax.specs.Tree.{Tree, truth, falsehood, label, negation, conjunction, disjunction, next, until}
 use Rattle.csl_syntax.specs.declared.formula.Bound.TheVariants.{Unbounded, Time, Reward}
 use Rattle.csl_syntax.specs.declared.formula.Op.{Op}
 use Rattle.csl_syntax.specs.declared.formula.Op.TheVariants.{Less, AtMost, More, AtLeast}
 use Rattle.decimal_text.specs.DecimalNumber.{DecimalNumber}
-use Rattle.model_core.specs.Model.{LabelledChain}
+use Rattle.model_core.specs.Model.{LabelledChain, Rewards}
 
 -- what a comparison of the language means
 abbrev pub comparison_of : Op → Comparison
@@ -65,8 +66,14 @@ load_of over t = time_load over.chain over.rate_decimals t.c t.x
 abbrev pub time_values : LabelledChain → DecimalNumber → (ℕ → Bool) → (ℕ → Bool) → ℕ → ℕ → Fraction
 time_values over t live goal s = until_average (uniformised over.chain) (load_of over t) live goal s
 
--- the list of truth values stands for the formula over the chain. What a bound on the reward means isn't said yet: no list stands for a
--- formula that has one.
+-- the probability of reaching the goal from s through live states before more reward than r is gathered, cut after so many jumps: by the
+-- duality that of reaching it within the time r in the dual chain
+abbrev pub reward_values : LabelledChain → Rewards → DecimalNumber → (ℕ → Bool) → (ℕ → Bool) → ℕ → ℕ → Fraction
+reward_values over rewards r live goal s =
+    until_average (uniformised (dual over.chain rewards.reward)) (reward_load over rewards r) live goal s
+
+-- the list of truth values stands for the formula over the chain. No list stands for a formula with a bound on the reward where a state has
+-- none that is positive: the duality says nothing of it
 abbrev pub IsSat : LabelledChain → Tree → List Bool → Type 0
 IsSat over truth xs = HoldsExactly over.chain.states (λ s. ⊤) xs
 IsSat over falsehood xs = HoldsExactly over.chain.states (λ s. ⊥) xs
@@ -81,4 +88,6 @@ IsSat over (until op q f Unbounded g) xs =
     HoldsOverBoth over.chain.states (IsSat over f) (IsSat over g) (λ y z s. SequenceMeets op q (reach_values over y z s)) xs
 IsSat over (until op q f (Time t) g) xs =
     HoldsOverBoth over.chain.states (IsSat over f) (IsSat over g) (λ y z s. SequenceMeets op q (time_values over t y z s)) xs
-IsSat over (until op q f (Reward r) g) xs = ⊥
+IsSat over (until op q f (Reward r) g) xs =
+    (earns : EarnsEverywhere over)
+    × HoldsOverBoth over.chain.states (IsSat over f) (IsSat over g) (λ y z s. SequenceMeets op q (reward_values over earns.rewards r y z s)) xs

@@ -32,7 +32,7 @@ has_no_until (disjunction f g) = has_no_until f && has_no_until g
 has_no_until (next op q f) = has_no_until f
 has_no_until (until op q f bound g) = false
 
--- the bound isn't one on the reward
+-- the bound is one on the reward
 abbrev pub is_reward : Bound → Bool
 is_reward Unbounded = false
 is_reward (Time t) = false

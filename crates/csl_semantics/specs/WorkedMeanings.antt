@@ -1,10 +1,10 @@
 -- Formulas over a small chain, worked out by hand. From the first of three states there is one transition, at the rate 1, to the second,
 -- which has the label `a`; the third state is never left, and can't be reached.
-use Rattle.std.specs.Prelude.{◌==◌, true, false, [], ◌∷◌, codes}
+use Rattle.std.specs.Prelude.{◌==◌, if◌then◌else◌, true, false, [], ◌∷◌, None, Some, codes}
 use Rattle.ctmc_semantics.specs.Table.{table_chain}
 use Rattle.csl_semantics.specs.Meaning.{IsSat}
 use Rattle.csl_syntax.specs.Tree.{Tree, truth, label, next, until}
-use Rattle.csl_syntax.specs.declared.formula.Bound.TheVariants.{Unbounded, Time}
+use Rattle.csl_syntax.specs.declared.formula.Bound.TheVariants.{Unbounded, Time, Reward}
 use Rattle.csl_syntax.specs.declared.formula.Op.TheVariants.{More, AtLeast}
 use Rattle.decimal_text.specs.DecimalNumber.{DecimalNumber}
 use Rattle.model_core.specs.Model.{LabelledChain}
@@ -15,6 +15,7 @@ worked_chain = record {
   rate_decimals = 0;
   names = codes "a" ∷ [];
   has = λ j s. s == 1;
+  rewards = None;
 }
 
 abbrev pub half : DecimalNumber
@@ -51,3 +52,24 @@ ReachUntilMeaning = IsSat worked_chain surely_a (true ∷ true ∷ false ∷ [])
 -- `P{>=0.5}[X P{>0.5}[tt U[0,1] a]]`: the inner formula holds in the second state, but after it no state comes
 abbrev pub NestedMeaning : Type 0
 NestedMeaning = IsSat worked_chain (next AtLeast half soon_a) (true ∷ false ∷ false ∷ [])
+
+-- the same chain, whose first state earns 2 for each unit of time, and the two others 1
+abbrev pub earning_chain : LabelledChain
+earning_chain = record {
+  chain = worked_chain.chain;
+  rate_decimals = worked_chain.rate_decimals;
+  names = worked_chain.names;
+  has = worked_chain.has;
+  rewards = Some (record { decimals = 0; reward = λ s. if s == 0 then 2 else 1 });
+}
+
+abbrev pub two : DecimalNumber
+two = record { c = 2; x = 0 }
+
+-- `P{>0.5}[tt U[0,~][0,2] a]`
+abbrev pub cheaply_a : Tree
+cheaply_a = until More half truth (Reward two) (label 0)
+
+-- in the first state a reward of 2 is gathered within the time 1, so the probability is `1 - 1/e` again
+abbrev pub RewardUntilMeaning : Type 0
+RewardUntilMeaning = IsSat earning_chain cheaply_a (true ∷ true ∷ false ∷ [])

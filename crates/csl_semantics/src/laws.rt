@@ -1,14 +1,14 @@
 // The laws of meaning, each the contract of a function.
 ghost use Rattle.csl_semantics.specs.Laws.{OneMeaning, MeaningIsNeverMissing, FormulaWithoutUntilIsDecided};
 ghost use Rattle.csl_semantics.specs.Laws.{PropositionalHasNoUntil, NoUntilHasNoReward};
-ghost use Rattle.csl_semantics.specs.Laws.{NextIsSat, TimeUntilIsSat, ReachUntilIsSat};
+ghost use Rattle.csl_semantics.specs.Laws.{NextIsSat, TimeUntilIsSat, ReachUntilIsSat, RewardUntilIsSat};
 
 /// One list of truth values at most stands for a formula.
 pub fn formula_has_one_meaning()
     ensures { OneMeaning }
 {}
 
-/// It can't be that none does, where no bound is on the reward.
+/// It can't be that none does, where no bound is on the reward or each state earns.
 pub fn meaning_is_never_missing()
     ensures { MeaningIsNeverMissing }
 {}
@@ -30,4 +30,5 @@ pub fn operators_read_their_operands()
     ensures next { NextIsSat }
     ensures time_until { TimeUntilIsSat }
     ensures reach_until { ReachUntilIsSat }
+    ensures reward_until { RewardUntilIsSat }
 {}

@@ -1,5 +1,5 @@
 -- A model: a chain with labels and perhaps rewards, as plain lists.
-use Rattle.std.specs.Prelude.{◌≡◌, ℕ, Bool, ◌==◌, ◌+◌, List, length, slice_index, Option, IsPermutation}
+use Rattle.std.specs.Prelude.{◌≡◌, ℕ, Bool, ◌==◌, ◌+◌, List, length, slice_index, Option, option_map, IsPermutation}
 use Rattle.std.specs.Option.{ForSome}
 use Rattle.std.specs.Int.{bit_at}
 use Rattle.ctmc_semantics.specs.Chain.{Chain}
@@ -23,20 +23,42 @@ model_chain model = chain_of model.n model.rates
 abbrev pub has_label : List ℕ → ℕ → ℕ → Bool
 has_label marks label s = bit_at (slice_index marks s) label == 1
 
--- a chain with labels, as formulas see it: the number of decimals of its rates, the names of its labels, and whether a state has a label
+-- what each state earns for each unit of time, in whole numbers, and the number of decimals that they have
+pub record Rewards : Type 0 where
+  pub decimals : ℕ
+  pub reward : ℕ → ℕ
+
+abbrev pub listed_rewards : RewLists → Rewards
+listed_rewards rew = record { decimals = rew.scale; reward = slice_index rew.rewards }
+
+-- a chain with labels, as formulas see it: the number of decimals of its rates, the names of its labels, whether a state has a label, and
+-- perhaps rewards
 pub record LabelledChain : Type 0 where
   pub chain : Chain
   pub rate_decimals : ℕ
   pub names : List (List ℕ)
   pub has : ℕ → ℕ → Bool
+  pub rewards : Option Rewards
 
 -- the labelled chain that a model holds
 abbrev pub labelled_chain : ModelLists → LabelledChain
-labelled_chain model = record { chain = model_chain model; rate_decimals = model.scale; names = model.names; has = has_label model.marks }
+labelled_chain model = record {
+  chain = model_chain model;
+  rate_decimals = model.scale;
+  names = model.names;
+  has = has_label model.marks;
+  rewards = option_map listed_rewards model.rewards;
+}
 
--- the labelled chain for which the files of the chain and of the labels stand
-abbrev pub files_chain : TraLists → LabLists → LabelledChain
-files_chain tra lab = record { chain = chain_of tra.n tra.rates; rate_decimals = tra.scale; names = lab.names; has = has_label lab.marks }
+-- the labelled chain for which the files stand
+abbrev pub files_chain : TraLists → LabLists → Option RewLists → LabelledChain
+files_chain tra lab rew = record {
+  chain = chain_of tra.n tra.rates;
+  rate_decimals = tra.scale;
+  names = lab.names;
+  has = has_label lab.marks;
+  rewards = option_map listed_rewards rew;
+}
 
 -- what holds of the files, one mark and perhaps one reward for each state, and the transitions in order
 pub record IsModel (model : ModelLists) : Type 0 where

@@ -13,3 +13,7 @@ returns-clause-time_until c = refl
 pub returns-clause-reach_until : goal.returns-clause-reach_until
 unfolding digits
 returns-clause-reach_until c = refl
+
+pub returns-clause-reward_until : goal.returns-clause-reward_until
+unfolding digits
+returns-clause-reward_until c = refl
