@@ -55,8 +55,7 @@ module _ (frame : FrameLists) (frame_is_sound : IsSoundFrame frame) (reach : Lis
     mix = sound_mix;
   }
 
-  module _ (chain : Chain) (sets : SetLists) (stand : StandFor frame.rows (uniformised chain))
-      (divisors : All (λ row. row.den ≡ uniform_rate chain) frame.rows) (sets_are : frame.sets ≡ sets) where
+  module _ (chain : Chain) (sets : SetLists) (stand : StandFor frame.rows (uniformised chain)) (sets_are : frame.sets ≡ sets) where
     pub time_plan : (load : Fraction) (bits last : ℕ) (weights : WeightLists) → last ≡ horizon load bits → 8 ≤ bits → bits ≤ 48
         → last ≤ MOST_LAYERS → 0 < load.den → AreWeightsOf load last weights → AreSoundWeights last weights
         → IsTimePlan chain load bits sets (plan_from frame.sets.goal_may last (Poisson weights bits))
@@ -66,16 +65,15 @@ module _ (frame : FrameLists) (frame_is_sound : IsSoundFrame frame) (reach : Lis
           frame_is_sound.sets.goal_may_states refl
           (record { weights_sound = sound_weights; some_bits = some_bits; few_bits = few_bits });
       rows = stand;
-      divisors = divisors;
       sets_are = sets_are;
       weights = weights;
       is_mix = refl;
       fits = record { positive = positive; weights_of = of_load; last_layer = is_last };
     }
 
-    pub unbounded_plan : (jumps : ℕ) → 1 ≤ jumps → jumps ≤ MOST_LAYERS
+    pub unbounded_plan : All (λ row. row.den ≡ uniform_rate chain) frame.rows → (jumps : ℕ) → 1 ≤ jumps → jumps ≤ MOST_LAYERS
         → IsUnboundedPlan chain jumps sets (plan_from reach jumps Last)
-    unbounded_plan jumps some few = record {
+    unbounded_plan divisors jumps some few = record {
       sound = plan_sound reach jumps Last some few reaches.states refl tt;
       rows = stand;
       divisors = divisors;

@@ -2,13 +2,14 @@
 use Rattle.std.proofs.Common.{◌≡◌, ℕ, zero, suc, ◌+◌, ◌-◌, ◌*◌, ◌^◌, ◌<◌, ◌≤◌, Bool, true, false, cond, eqb, List, [], ◌∷◌, ◌++◌, length, get_or, map, refl, ap, sym, ◌∙◌, subst, drop, eq-eqb, arith}
 use Rattle.std.specs.Prelude.{nat_lt}
 use Rattle.std.specs.List.{All, AllPairs, sum_by}
+use Rattle.std.proofs.Math.Nat.{mul-le-mul_left, mul-le-mul_right}
 use Rattle.std.proofs.lemmas.Bool.{lt-ltb, le-ltb}
 use Rattle.std.proofs.lemmas.Bool.Decides.{nat_tests}
-use Rattle.std.proofs.lemmas.List.{append_assoc, get_or_append_left}
+use Rattle.std.proofs.lemmas.List.{append_assoc, get_or-map, get_or_append_left, length-map}
 use Rattle.std.proofs.Math.Seq.{get_or-append_seam}
 use Rattle.std.proofs.lemmas.List.Elements.{All-nil, All-cons, All-head, All-tail}
 use Rattle.std.proofs.lemmas.List.Kept.{AllPairs-cons}
-use Rattle.std.proofs.lemmas.List.Sums.{sum_by-cons, sum_by-append}
+use Rattle.std.proofs.lemmas.List.Sums.{get_or-le-sum_by, sum_by-cons, sum_by-append}
 use Rattle.std.proofs.Math.Decide.{dec_le}
 use Rattle.std.proofs.lemmas.Bool.{ne_eqb}
 use Rattle.std.proofs.Math.ListN.{drop_of_length-le}
@@ -18,7 +19,7 @@ use Rattle.ctmc_semantics.specs.Chain.{exit_rate}
 use Rattle.ctmc_semantics.specs.Next.{rate_into}
 use Rattle.ctmc_semantics.specs.Sum.{sum_below}
 use Rattle.ctmc_semantics.specs.Uniformised.{uniform_rate, uniformised}
-use Rattle.ctmc_semantics.proofs.UniformLemmas.{exit_le_uniform, uniformised_stochastic}
+use Rattle.ctmc_semantics.proofs.UniformLemmas.{uniformised_stochastic}
 use Rattle.ctmc_semantics.proofs.Sums.{sum_below-same}
 use Rattle.ctmc_semantics.specs.Jumps.{Jumps}
 use Rattle.model_core.specs.Model.{ModelLists, model_chain}
@@ -31,6 +32,7 @@ use Rattle.model_core.specs.declared.rate.Rate.{Rate}
 use Rattle.model_core.specs.Transitions.{sum_into}
 use Rattle.model_core.specs.Files.{IsTransition}
 use Rattle.round_out.specs.declared.entry.Entry.{Entry}
+use Rattle.uniformise.specs.JumpRow.{all_times, jump_number, times}
 use Rattle.uniformise.specs.UniformisedRow.{share_entry, transition_entries}
 
 -- the share that still has no entry after a transition
@@ -298,48 +300,115 @@ its_own : (b : Bool) (x : ℕ) → b ≡ true → cond b x 0 ≡ x
 its_own true x e = refl
 its_own false x e = cc
 
-module _ (model : ModelLists) (s uniform : ℕ) (rs : List Rate) (es : List Entry) (state : s < model.n)
-    (value : uniform ≡ uniform_rate (model_chain model))
+-- ---- transitions at so many times their rates
+cond_times : (b : Bool) (x k : ℕ) → cond b (x * k) 0 ≡ cond b x 0 * k
+cond_times true x k = refl
+cond_times false x k = omega arith
+
+times_into : (factor : ℕ) (set : ℕ → Bool) (rs : List Rate) → sum_into set (all_times factor rs) ≡ sum_into set rs * factor
+times_into factor set [] = omega arith
+times_into factor set (r ∷ rs) =
+    let part = λ (x : Rate). cond (set x.to) x.rate 0 in
+    let more : sum_into set (all_times factor (r ∷ rs)) ≡ cond (set r.to) (r.rate * factor) 0 + sum_into set (all_times factor rs) =
+    sum_by-cons part (times factor r) (all_times factor rs) in
+    let own : sum_into set (r ∷ rs) ≡ cond (set r.to) r.rate 0 + sum_into set rs = sum_by-cons part r rs in
+    omega (arith, more, ap (λ x. x * factor) own, times_into factor set rs, cond_times (set r.to) r.rate factor)
+
+times_target : (factor : ℕ) (rs : List Rate) → map (λ r. r.to) (all_times factor rs) ≡ map (λ r. r.to) rs
+times_target factor [] = refl
+times_target factor (r ∷ rs) = ap (λ ts. r.to ∷ ts) (times_target factor rs)
+
+times_all : (P Q : Rate → Type 0) (factor : ℕ) → ((r : Rate) → P r → Q (times factor r)) → (rs : List Rate) → All P rs
+    → All Q (all_times factor rs)
+times_all P Q factor h [] p = All-nil Q
+times_all P Q factor h (r ∷ rs) p =
+    All-cons Q (times factor r) (all_times factor rs) (h r (All-head P r rs p)) (times_all P Q factor h rs (All-tail P r rs p))
+
+times_transition : (n factor : ℕ) → 1 ≤ factor → (r : Rate) → IsTransition n r → IsTransition n (times factor r)
+times_transition n factor some r t = record {
+  from_within = t.from_within;
+  to_within = t.to_within;
+  positive = omega (arith, mul-le-mul_left r.rate some, t.positive);
+}
+
+-- each rate is at most all of them
+pub rate_within : (chain_exit factor total : ℕ) (rs : List Rate) (i : ℕ) (d : Rate) → i < length rs
+    → sum_into (λ u. true) rs ≡ chain_exit → chain_exit * factor ≤ total → (get_or rs i d).rate * factor ≤ total
+rate_within chain_exit factor total rs i d l whole within =
+    let each : (get_or rs i d).rate ≤ sum_into (λ u. true) rs = get_or-le-sum_by (λ (r : Rate). r.rate) rs i d l in
+    omega (arith, within, mul-le-mul_right factor (omega_le (get_or rs i d).rate (sum_into (λ u. true) rs) chain_exit each whole))
+  where
+    omega_le : (a b c : ℕ) → a ≤ b → b ≡ c → a ≤ c
+    omega_le a b c h e = omega (arith, h, e)
+
+-- a transition at so many times its rate stands in its place
+pub times_at : (factor : ℕ) (rs : List Rate) (i : ℕ) (d e : Rate) → i < length rs
+    → get_or (all_times factor rs) i e ≡ times factor (get_or rs i d)
+times_at factor rs i d e l = get_or-map (times factor) rs i d e l
+
+pub times_counted : (factor : ℕ) (rs : List Rate) → length (all_times factor rs) ≡ length rs
+times_counted factor rs = length-map rs (times factor)
+
+module _ (model : ModelLists) (s factor total : ℕ) (rs : List Rate) (es : List Entry) (state : s < model.n) (some : 1 ≤ factor)
+    (within : exit_rate (model_chain model) s * factor ≤ total)
     (rates_into : (set : ℕ → Bool) → sum_into set rs ≡ rate_into (model_chain model) set s)
-    (are : es ≡ row_entries s (uniform - exit_rate (model_chain model) s) rs) where
+    (are : es ≡ row_entries s (total - exit_rate (model_chain model) s * factor) (all_times factor rs)) where
   abbrev share : ℕ
-  share = uniform - exit_rate (model_chain model) s
+  share = total - exit_rate (model_chain model) s * factor
 
   -- the numbers into a set of states, of the whole row
-  into : (set : ℕ → Bool) → number_into set es ≡ rate_into (model_chain model) set s + cond (set s) share 0
-  into set = ap (number_into set) are ∙ (number_row set s share rs ∙ ap (λ x. x + cond (set s) share 0) (rates_into set))
+  into : (set : ℕ → Bool) → number_into set es ≡ rate_into (model_chain model) set s * factor + cond (set s) share 0
+  into set =
+      ap (number_into set) are
+      ∙ number_row set s share (all_times factor rs)
+      ∙ ap (λ x. x + cond (set s) share 0) (times_into factor set rs ∙ ap (λ x. x * factor) (rates_into set))
 
-  -- the numbers are the weights of the uniformised chain
-  pub row_numbers : (t : ℕ) → t < model.n → number_to es t ≡ (uniformised (model_chain model)).weight s t
+  -- the numbers are those of the jumps
+  pub row_numbers : (t : ℕ) → t < model.n → number_to es t ≡ jump_number (model_chain model) factor total s t
   row_numbers t l =
       let rate : ℕ → ℕ = (model_chain model).rate s in
       let own : rate_into (model_chain model) (λ u. eqb u t) s ≡ rate t =
       sum_below-one model.n t (λ u. cond (eqb u t) (rate u) 0) l (λ u other. one_state (eqb u t) (rate u) (ne_eqb u t other))
       ∙ its_own (eqb t t) (rate t) (eq-eqb t t refl) in
-      into (λ u. eqb u t) ∙ (ap (λ x. x + cond (eqb s t) share 0) own ∙ ap
-      (λ b. rate t + cond (eqb s t) (b - exit_rate (model_chain model) s) 0) value)
+      into (λ u. eqb u t) ∙ ap (λ x. x * factor + cond (eqb s t) share 0) own
 
   -- the row is sound
-  pub row_sound : uniform < 2 ^ 63 → IsStrictlyIncreasing (map (λ r. r.to) rs) → All (IsTransition model.n) rs
-      → IsSoundRow model.n (record { den = uniform; entries = es })
-  row_sound fits ascending transitions =
-      let some : All (λ (r : Rate). 1 ≤ r.rate) rs = λ i d l. (transitions i d l).positive in
-      let whole : sum_by (λ e. e.num) es ≡ exit_rate (model_chain model) s + share = into (λ u. true) in
-      let under : exit_rate (model_chain model) s ≤ uniform_rate (model_chain model) = exit_le_uniform (model_chain model) s state in
+  pub row_sound : 1 ≤ total → total < 2 ^ 63 → IsStrictlyIncreasing (map (λ r. r.to) rs) → All (IsTransition model.n) rs
+      → IsSoundRow model.n (record { den = total; entries = es })
+  row_sound positive fits ascending transitions =
+      let all = all_times factor rs in
+      let moved : All (IsTransition model.n) all =
+      times_all (IsTransition model.n) (IsTransition model.n) factor (times_transition model.n factor some) rs transitions in
+      let rates : All (λ (r : Rate). 1 ≤ r.rate) all = λ i d l. (moved i d l).positive in
+      let whole : sum_by (λ e. e.num) es ≡ exit_rate (model_chain model) s * factor + share = into (λ u. true) in
       record {
         targets =
             subst (All (λ e. e.to < model.n)) (sym are)
-            (all_row (λ e. e.to < model.n) s share rs (λ num p q. state) (λ i d l num p. (transitions i d l).to_within) some);
+            (all_row (λ e. e.to < model.n) s share all (λ num p q. state) (λ i d l num p. (moved i d l).to_within) rates);
         ascend =
             rising-from_AllPairs (λ (e : Entry). e.to) es
-            (subst (AllPairs IsBefore) (sym are) (ascending_row s share rs (AllPairs-from_rising (λ (r : Rate). r.to) rs ascending) some));
+            (subst (AllPairs IsBefore) (sym are)
+            (ascending_row s share all
+            (AllPairs-from_rising (λ (r : Rate). r.to) all (subst IsStrictlyIncreasing (sym (times_target factor rs)) ascending)) rates));
         numbers =
             subst (All (λ e. 0 < e.num)) (sym are)
-            (all_row (λ e. 0 < e.num) s share rs (λ num p q. p) (λ i d l num p. p) some);
-        whole = omega arith;
-        positive = omega arith;
+            (all_row (λ e. 0 < e.num) s share all (λ num p q. p) (λ i d l num p. p) rates);
+        whole = omega (arith, whole, within);
+        positive = positive;
         fits = fits;
       }
+
+-- over the uniform rate the numbers are the weights of the uniformised chain
+pub uniform_number : (model : ModelLists) (uniform s t : ℕ) → uniform ≡ uniform_rate (model_chain model)
+    → jump_number (model_chain model) 1 uniform s t ≡ (uniformised (model_chain model)).weight s t
+uniform_number model uniform s t value =
+    let chain = model_chain model in
+    ap (λ u. jump_number chain 1 u s t) value
+    ∙ same_parts (eqb s t) (chain.rate s t) (uniform_rate chain) (exit_rate chain s)
+  where
+    same_parts : (b : Bool) (r u e : ℕ) → r * 1 + cond b (u - e * 1) 0 ≡ r + cond b (u - e) 0
+    same_parts true r u e = omega arith
+    same_parts false r u e = omega arith
 
 abbrev no_row : RowLists
 no_row = record { den = 0; entries = [] }

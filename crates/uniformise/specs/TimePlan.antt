@@ -1,10 +1,9 @@
 -- The plan of a time-bounded until, and when there is none.
-use Rattle.std.specs.Prelude.{◌≡◌, ℕ, suc, ◌*◌, ◌<◌, ◌≤◌, ◌^◌, All, if◌then◌else◌, nat_lt, Option, Some, None}
+use Rattle.std.specs.Prelude.{◌≡◌, ℕ, suc, ◌*◌, if◌then◌else◌, nat_lt, Option, Some, None}
 use Rattle.ctmc_semantics.specs.Chain.{Chain}
 use Rattle.ctmc_semantics.specs.Fraction.{Fraction}
 use Rattle.ctmc_semantics.specs.Horizon.{horizon}
-use Rattle.ctmc_semantics.specs.Uniformised.{time_load, uniform_rate, uniformised}
-use Rattle.ctmc_semantics.specs.Weights.{mode}
+use Rattle.ctmc_semantics.specs.Uniformised.{time_load, uniformised}
 use Rattle.decimal_text.specs.DecimalNumber.{DecimalNumber}
 use Rattle.poisson_tail.specs.declared.layers.TheConstants.{MOST_LAYERS}
 use Rattle.step_core.specs.FrameLists.{SetLists}
@@ -16,15 +15,13 @@ use Rattle.step_core.specs.WeightLists.{WeightLists}
 use Rattle.step_core.specs.declared.mix.Mix.TheVariants.{Poisson}
 use Rattle.step_core.specs.declared.plan_error.PlanError.{PlanError}
 use Rattle.step_core.specs.declared.plan_error.PlanError.TheVariants.{TooLong, TooLarge}
-use Rattle.uniformise.specs.declared.time_bound.TheConstants.{MOST_WORDS}
-use Rattle.uniformise.specs.declared.time_bound.TimeBound.{TimeBound}
+use Rattle.uniformise.specs.declared.limits.TheConstants.{MOST_WORDS}
 
 -- the plan is that of reaching the goal through live states within the load's time: it is sound, its rows stand for the uniformised chain,
--- over that chain's rate, its sets are these, its weights are the load's, and its last layer is the load's horizon
+-- its sets are these, its weights are the load's, and its last layer is the load's horizon
 pub record IsTimePlan (chain : Chain) (load : Fraction) (bits : ℕ) (sets : SetLists) (plan : PlanLists) : Type 0 where
   pub sound : IsSoundPlan plan
   pub rows : StandFor plan.frame.rows (uniformised chain)
-  pub divisors : All (λ row. row.den ≡ uniform_rate chain) plan.frame.rows
   pub sets_are : plan.frame.sets ≡ sets
   pub weights : WeightLists
   pub is_mix : plan.mix ≡ Poisson weights bits
@@ -42,14 +39,3 @@ plan_refusal last states = if nat_lt MOST_LAYERS last then Some TooLong else tab
 abbrev pub time_refusal : Chain → ℕ → ℕ → DecimalNumber → Option PlanError
 time_refusal chain rate_decimals bits time =
     plan_refusal (horizon (time_load chain rate_decimals time.c time.x) bits) chain.states
-
--- what a plan needs of a time bound over the chain: its horizon is the load's, which is none too far, the weights have their greatest by
--- then, and the jumps have the uniformised chain's rate
-pub record IsTimeBound (chain : Chain) (bound : TimeBound) : Type 0 where
-  pub last : bound.last ≡ horizon bound.load bound.bits
-  pub some_bits : 8 ≤ bound.bits
-  pub few_bits : bound.bits ≤ 48
-  pub few : bound.last ≤ MOST_LAYERS
-  pub has_mode : mode bound.load ≤ bound.last
-  pub uniform : bound.uniform ≡ uniform_rate chain
-  pub fits : bound.uniform < 2 ^ 63

@@ -1,18 +1,19 @@
 // The plan of a time-bounded until over a model.
-ghost use Rattle.std.specs.Prelude.{◌≡◌, ◌≢◌, ◌≤◌, Some, None, IfOk, IfErr};
-ghost use Rattle.ctmc_semantics.specs.Uniformised.{time_load};
+ghost use Rattle.std.specs.Prelude.{◌≡◌, ◌≢◌, ◌<◌, ◌≤◌, ◌^◌, All, Some, None, IfOk, IfErr};
+ghost use Rattle.ctmc_semantics.specs.Uniformised.{greatest_exit_rate, time_load, uniform_rate};
 ghost use Rattle.model_core.specs.Model.{model_chain};
 ghost use Rattle.step_core.specs.SoundFrame.{AreSoundSets};
-ghost use Rattle.uniformise.specs.TimePlan.{IsTimePlan, IsTimeBound, time_refusal};
+ghost use Rattle.uniformise.specs.TimePlan.{IsTimePlan, time_refusal};
 
-use crate::time_bound::{TimeBound, time_bound};
+use crate::exit_rates::greatest_exit_rate;
+use crate::limits::last_layer;
+use crate::load_plan::plan_of_load;
 use crate::uniformised_frame::uniformised_frame;
 use decimal_text::Decimal;
-use graph_reach::can_reach;
 use model_core::Model;
-use poisson_tail::weights;
-use std::alloc::{AllocError, Global};
-use step_core::{Mix, Plan, PlanError, Sets, set_layer};
+use poisson_tail::Load;
+use std::alloc::Global;
+use step_core::{Plan, PlanError, Sets};
 
 /// The plan of reaching the goal through live states within the time, over the model's uniformised
 /// chain (Jensen 1953).
@@ -33,33 +34,25 @@ pub fn time_plan(
     requires few_bits { bits ≤ 48 }
     ensures plan { IfOk result (IsTimePlan (model_chain model.now)
         (time_load (model_chain model.now) model.now.scale time.c time.x) bits sets) }
+    ensures divisors { IfOk result (λ plan. All (λ row. row.den ≡ uniform_rate (model_chain model.now)) plan.frame.rows) }
     ensures accepted { IfOk result (λ _. time_refusal (model_chain model.now) model.now.scale bits time ≡ None) }
     ensures refused { IfErr result (λ error. error ≢ PlanError.Memory
         → time_refusal (model_chain model.now) model.now.scale bits time ≡ Some error) }
 {
-    let bound = time_bound(model, time, bits)?;
-    Ok(plan_within(alloc, model, sets, &bound)?)
+    let greatest = greatest_exit_rate(model);
+    let load = time_load(model, greatest, time);
+    let last = last_layer(&load, bits, model.n())?;
+    let frame = uniformised_frame(alloc, model, sets, greatest.max(1))?;
+    Ok(plan_of_load(alloc, frame, &load, last, bits)?)
 }
 
-// The plan of a bound that isn't refused.
-fn plan_within(
-    alloc: Global,
-    model: &Model,
-    sets: Sets,
-    bound: &TimeBound,
-) -> Result<Plan, AllocError>
-    requires sets { AreSoundSets model.now.n sets }
-    requires bound { IsTimeBound (model_chain model.now) bound.now }
-    ensures { IfOk result (IsTimePlan (model_chain model.now) bound.now.load bound.now.bits sets) }
+// The number of jumps that are expected within the time, at the greatest rate at which a state is
+// left.
+fn time_load(model: &Model, greatest: u64, time: Decimal) -> Load
+    requires value { greatest ≡ greatest_exit_rate (model_chain model.now) }
+    requires bound { greatest < 2 ^ 63 }
+    ensures { result ≡ time_load (model_chain model.now) model.now.scale time.c time.x }
 {
-    let start_upper = set_layer(alloc, &sets.goal_may)?;
-    let frame = uniformised_frame(alloc, model, sets, bound.uniform)?;
-    let reach = can_reach(alloc, &frame)?;
-    Ok(Plan {
-        frame,
-        layers: bound.last,
-        start_upper,
-        reach,
-        mix: Mix::Poisson(weights(alloc, &bound.load, bound.last)?, bound.bits),
-    })
+    let jumps = u128::from(greatest) * u128::from(time.c);
+    Load::new(jumps, 10u128.pow(model.scale() + time.x))
 }

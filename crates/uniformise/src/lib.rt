@@ -3,13 +3,17 @@
 
 mod bounded;
 mod exit_rates;
-mod time_bound;
+mod jump_rows;
+mod limits;
+mod load_plan;
 mod unbounded;
 mod uniformised_frame;
 mod uniformised_rows;
 
 pub use bounded::time_plan;
-pub use time_bound::MOST_WORDS;
+pub use jump_rows::jump_row;
+pub use limits::{MOST_WORDS, last_layer};
+pub use load_plan::plan_of_load;
 pub use unbounded::unbounded_plan;
 
 #[cfg(test)]

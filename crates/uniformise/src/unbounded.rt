@@ -7,7 +7,7 @@ ghost use Rattle.uniformise.specs.TimePlan.{table_refusal};
 ghost use Rattle.uniformise.specs.UnboundedPlan.{IsUnboundedPlan};
 
 use crate::exit_rates::uniform_rate;
-use crate::time_bound::check_words;
+use crate::limits::check_words;
 use crate::uniformised_frame::uniformised_frame;
 use graph_reach::can_reach;
 use model_core::Model;

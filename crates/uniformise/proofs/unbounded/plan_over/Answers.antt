@@ -11,4 +11,4 @@ returns c =
     c.in_ok-start_upper.ensures ∙ ap (map (λ holds. cond holds one_word 0)) c.deref.ensures.value in
     rw start
     (unbounded_plan c.in_ok-frame.frame frame.sound c.in_ok-reach.reach.items c.in_ok-reach.ensures.exact (model_chain c.args.model.now)
-    c.args.sets frame.stand frame.divisors frame.sets_are c.args.jumps c.requires.some_jumps c.requires.few_jumps)
+    c.args.sets frame.stand frame.sets_are frame.divisors c.args.jumps c.requires.some_jumps c.requires.few_jumps)

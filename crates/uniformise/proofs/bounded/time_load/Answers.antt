@@ -1,6 +1,6 @@
 use Rattle.std.proofs.Common.{◌+◌, arith}
 use Rattle.ctmc_semantics.proofs.Powers.{power_le}
-use Rattle.uniformise.proofs.time_bound.time_load.Goals as goal
+use Rattle.uniformise.proofs.bounded.time_load.Goals as goal
 
 pub pow-requires : goal.pow-requires
 pow-requires c =
