@@ -1,0 +1,12 @@
+pub mod Gcd
+pub mod Coprime
+pub mod LowestProducts
+pub mod PowerRatio
+pub mod Products
+pub mod Fastest
+pub mod DualRows
+pub mod FirstState
+pub mod EarningLemmas
+pub mod SameLoads
+pub mod Accepted
+pub mod PlanFacts
