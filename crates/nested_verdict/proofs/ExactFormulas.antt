@@ -1,13 +1,19 @@
 -- The answer to a formula is exact.
-use Rattle.std.proofs.Common.{◌≡◌, ◌≢◌, ℕ, ◌<◌, ◌≤◌, ◌↔◌, ◌&&◌, not, Bool, true, false, IsTrue, List, [], map, Some, None, IsSomeAnd, refl, sym, ap, subst, ◌∙◌, arith}
-use Rattle.std.proofs.lemmas.Bool.{false≢true, and_parts}
+use Rattle.std.proofs.Common.{◌≡◌, ◌≢◌, ℕ, ◌+◌, ◌<◌, ◌≤◌, ◌↔◌, Bool, true, false, IsTrue, List, [], map, Some, None, IsSomeAnd, refl, sym, ap, subst, ◌∙◌, arith}
+use Rattle.std.proofs.lemmas.Bool.{false≢true}
 use Rattle.std.proofs.lemmas.List.FromFn.{get_or-map-range_with_len, length-map-range_with_len}
 use Rattle.ctmc_semantics.specs.Bracket.{ContainsFrom, ContainsLimit}
 use Rattle.ctmc_semantics.specs.Horizon.{horizon}
 use Rattle.ctmc_semantics.specs.Sets.{holds_at}
 use Rattle.command_words.specs.declared.command.Options.{Options}
-use Rattle.csl_semantics.specs.Meaning.{IsSat, load_of, reach_values, time_values}
-use Rattle.csl_semantics.specs.Truth.{has_no_reward, is_reward}
+use Rattle.csl_semantics.specs.Dual.{dual, reward_load}
+use Rattle.csl_semantics.proofs.Unique.{same_rewards}
+use Rattle.ctmc_semantics.specs.Fraction.{decimal_fraction}
+use Rattle.reward_dual.proofs.Accepted.{accepted}
+use Rattle.nested_verdict.specs.ExactState.{IsExactUntil}
+use Rattle.nested_verdict.specs.UntilAnswer.{state_words, time_words, words_answer}
+use Rattle.nested_verdict.proofs.RewardBound.{reward_load_positive, stays_out}
+use Rattle.csl_semantics.specs.Meaning.{HoldsOverBoth, IsSat, SequenceMeets, comparison_of, load_of, reach_values, reward_values, time_values}
 use Rattle.csl_syntax.specs.Tree.{Tree, truth, falsehood, label, negation, conjunction, disjunction, next, until}
 use Rattle.csl_syntax.specs.declared.formula.Bound.{Bound}
 use Rattle.csl_syntax.specs.declared.formula.Bound.TheVariants.{Unbounded, Time, Reward}
@@ -18,14 +24,14 @@ use Rattle.report.specs.Answer.{AnswerLists, truth_verdict}
 use Rattle.report.specs.declared.answer.Printed.{Printed}
 use Rattle.report.specs.declared.answer.Verdict.{Verdict}
 use Rattle.report.specs.declared.answer.Verdict.TheVariants.{Undecided}
-use Rattle.nested_verdict.specs.ExactAnswer.{IsSo, AreSo, IsDecided, ForOperand, AreNearReach, AreNearTime, IsExactAnswer, unwatched}
+use Rattle.nested_verdict.specs.ExactAnswer.{IsSo, AreSo, IsDecided, ForEach, ForOperand, AreNearLast, AreNearReach, IsOutOfReach, ShowsUntil, IsExactAnswer, unwatched}
 use Rattle.nested_verdict.specs.FormulaAnswer.{first_of, first_refusal, formula_answer, verdicts_answer, shown_answer, next_states, until_states, truth_verdicts}
-use Rattle.nested_verdict.specs.ThreeValues.{opposites, both, either}
-use Rattle.nested_verdict.specs.UntilPlan.{bound_refusal, last_jumps}
+use Rattle.nested_verdict.specs.ThreeValues.{may_list, opposites, both, either, verdicts_know}
+use Rattle.nested_verdict.specs.UntilPlan.{bound_refusal, dual_by, last_jumps, load_by}
 use Rattle.nested_verdict.specs.UnwatchedAnswer.{unwatched_answer}
 use Rattle.nested_verdict.specs.WatchedBrackets.{AreTakenOf, IsWatched}
 use Rattle.nested_verdict.proofs.ExactNext.{next_are_so, next_shows}
-use Rattle.nested_verdict.proofs.ExactUntil.{reach_exact, time_exact}
+use Rattle.nested_verdict.proofs.ExactUntil.{load_exact, power_of_ten, reach_exact}
 use Rattle.nested_verdict.proofs.ShownUntil.{until_are_so, until_shows}
 use Rattle.nested_verdict.proofs.FormulaAnswers.{formula_unwatched, inside_same, none_of, refusal_same}
 use Rattle.nested_verdict.proofs.OperatorsSo.{both_are_so, either_are_so, opposites_so}
@@ -187,9 +193,9 @@ module _ (over : LabelledChain) (options : Options) where
           is = found.is;
         }
 
-    until_exact : (bound : Bound) → IsTrue (not (is_reward bound)) → bound_refusal over options bound ≡ None → (answer : AnswerLists)
-        → IsDue bound answer → IsExactAnswer over options (until op q f bound g) answer
-    until_exact Unbounded built unrefused answer d =
+    until_exact : (bound : Bound) → bound_refusal over options bound ≡ None → (answer : AnswerLists) → IsDue bound answer
+        → IsExactAnswer over options (until op q f bound g) answer
+    until_exact Unbounded unrefused answer d =
         let exact = reach_exact over options op q f g (of f) (of g) (inside_so f left) (inside_so g right) in
         subst (IsExactAnswer over options (until op q f Unbounded g)) (sym d.is) (
           until_are_so over options op q Unbounded f g (of f) (of g) (reach_values over) (λ b x. ContainsLimit b options.jumps x)
@@ -198,61 +204,99 @@ module _ (over : LabelledChain) (options : Options) where
               (until_shows over options op q Unbounded f g (of f) (of g) (reach_values over) (λ b x. ContainsLimit b options.jumps x)
               (AreNearReach over options (of f) (of g)) state (λ x. limit_widens options.jumps x) exact (λ xs stands. stands) d.watched d.taken)),
         )
-    until_exact (Time t) built unrefused answer d =
-        let last = horizon (load_of over t) options.bits in
+    until_exact (Time t) unrefused answer d =
+        let load = load_of over t in
+        let last = horizon load options.bits in
         let short = (few last over.chain.states unrefused).0 in
-        let exact = time_exact over options op q f g (of f) (of g) (inside_so f left) (inside_so g right) t few_bits short in
+        let exact =
+        load_exact over options op q f g (of f) (of g) (inside_so f left) (inside_so g right) over.chain refl load
+        (power_of_ten (over.rate_decimals + t.x)) few_bits short (λ s h. h) in
         subst (IsExactAnswer over options (until op q f (Time t) g)) (sym d.is) (
           until_are_so over options op q (Time t) f g (of f) (of g) (time_values over t) (λ b x. ContainsFrom b last x)
-              (AreNearTime over options t (of f) (of g)) state (λ x. from_widens last x) exact (λ xs stands. stands) d.watched,
+              (AreNearLast last options.bits (time_values over t) (of f) (of g)) state (λ x. from_widens last x) exact (λ xs stands. stands)
+              d.watched,
           for_operand f left _ (for_operand g right _
               (until_shows over options op q (Time t) f g (of f) (of g) (time_values over t) (λ b x. ContainsFrom b last x)
-              (AreNearTime over options t (of f) (of g)) state (λ x. from_widens last x) exact (λ xs stands. stands) d.watched d.taken)),
+              (AreNearLast last options.bits (time_values over t) (of f) (of g)) state (λ x. from_widens last x) exact (λ xs stands. stands)
+              d.watched d.taken)),
         )
-    until_exact (Reward r) built unrefused answer d = absurd (false≢true built)
+    until_exact (Reward r) unrefused answer d =
+        let accept = accepted over options.bits r unrefused in
+        let earns = accept.earns in
+        let chain = dual over.chain earns.rewards.reward in
+        let load = reward_load over earns.rewards r in
+        let last = horizon load options.bits in
+        let values = reward_values over earns.rewards r in
+        let short = (few last over.chain.states accept.plan).0 in
+        let near = AreNearLast last options.bits values (of f) (of g) in
+        let by = comparison_of op in
+        let limit = decimal_fraction q.c q.x in
+        let sets = verdicts_know (of f) (of g) in
+        let exact_dual =
+        load_exact over options op q f g (of f) (of g) (inside_so f left) (inside_so g right) chain refl load
+        (reward_load_positive over earns r) few_bits short
+        (λ s h. stays_out over.chain earns.rewards.reward (holds_at (may_list (of f))) (holds_at (may_list (of g))) s h) in
+        let exact : (s : ℕ) → s < over.chain.states
+        → IsExactUntil by (ForEach over f g values s) (λ b. ForEach over f g values s (λ x. ContainsFrom b last x)) (near s)
+        (IsTrue (sets.goal_must s)) (IsOutOfReach over.chain sets.live_may sets.goal_may s) limit
+        (words_answer by (state_words over options (Reward r) sets s) limit) =
+        λ s l.
+        subst (λ o. IsExactUntil by (ForEach over f g values s) (λ b. ForEach over f g values s (λ x. ContainsFrom b last x)) (near s)
+        (IsTrue (sets.goal_must s)) (IsOutOfReach over.chain sets.live_may sets.goal_may s) limit
+        (words_answer by (time_words (dual_by over o) (load_by over r o) options.bits sets s) limit)) (sym earns.are) (exact_dual s l) in
+        let means : (xs : List Bool) → IsSat over (until op q f (Reward r) g) xs
+        → HoldsOverBoth over.chain.states (IsSat over f) (IsSat over g) (λ y z s. SequenceMeets op q (values y z s)) xs =
+        λ xs stands. same_rewards over op q r f g xs stands.0 earns stands.1 in
+        let shows =
+        until_shows over options op q (Reward r) f g (of f) (of g) values (λ b x. ContainsFrom b last x) near state (λ x. from_widens last x)
+        exact means d.watched d.taken in
+        subst (IsExactAnswer over options (until op q f (Reward r) g)) (sym d.is) (
+          until_are_so over options op q (Reward r) f g (of f) (of g) values (λ b x. ContainsFrom b last x) near state
+              (λ x. from_widens last x) exact means d.watched,
+          for_operand f left _ (for_operand g right _ (
+            earns,
+            subst (λ k. ShowsUntil over options f g sets by k values (λ b x. ContainsFrom b last x) near limit (due (Reward r) d.watched))
+                (ap (λ o. horizon (load_by over r o) options.bits) earns.are) shows,
+          )),
+        )
 
 -- ---- every formula that is answered
-pub formula_exact : (over : LabelledChain) (options : Options) (f : Tree) (answer : AnswerLists) → IsTrue (has_no_reward f)
-    → options.bits ≤ 48 → options.state < over.chain.states → first_refusal over options f ≡ None
+pub formula_exact : (over : LabelledChain) (options : Options) (f : Tree) (answer : AnswerLists) → options.bits ≤ 48 → options.state < over.chain.states → first_refusal over options f ≡ None
     → unwatched_answer answer ≡ formula_answer over options f → IsWatched options answer → IsExactAnswer over options f answer
-formula_exact over options truth answer built few_bits state unrefused e w =
+formula_exact over options truth answer few_bits state unrefused e w =
     truths_exact over truth (λ s. true) (λ xs stands s l. ((λ h. refl), (λ h. (stands.exact s l).1 tt))) answer e
-formula_exact over options falsehood answer built few_bits state unrefused e w =
+formula_exact over options falsehood answer few_bits state unrefused e w =
     truths_exact over falsehood (λ s. false)
     (λ xs stands s l. ((λ h. absurd ((stands.exact s l).0 h)), (λ h. absurd (false≢true h)))) answer e
-formula_exact over options (label j) answer built few_bits state unrefused e w =
+formula_exact over options (label j) answer few_bits state unrefused e w =
     truths_exact over (label j) (over.has j) (λ xs stands s l. stands.exact s l) answer e
-formula_exact over options (negation f) answer built few_bits state unrefused e w =
-    negation_exact over options f (formula_exact over (unwatched options) f (inside over options f) built few_bits state (refusal_same over options f ∙ unrefused)
+formula_exact over options (negation f) answer few_bits state unrefused e w =
+    negation_exact over options f (formula_exact over (unwatched options) f (inside over options f) few_bits state (refusal_same over options f ∙ unrefused)
     (formula_unwatched over (unwatched options) f) (inside_watched over options f)) answer e
-formula_exact over options (conjunction f g) answer built few_bits state unrefused e w =
-    let parts = and_parts (has_no_reward f) (has_no_reward g) built in
+formula_exact over options (conjunction f g) answer few_bits state unrefused e w =
     let none = none_of (first_refusal over options f) (first_refusal over options g) unrefused in
-    conjunction_exact over options f g (formula_exact over (unwatched options) f (inside over options f) parts.0 few_bits state (refusal_same over options f ∙ none.0)
+    conjunction_exact over options f g (formula_exact over (unwatched options) f (inside over options f) few_bits state (refusal_same over options f ∙ none.0)
     (formula_unwatched over (unwatched options) f) (inside_watched over options f))
-    (formula_exact over (unwatched options) g (inside over options g) parts.1 few_bits state (refusal_same over options g ∙ none.1)
+    (formula_exact over (unwatched options) g (inside over options g) few_bits state (refusal_same over options g ∙ none.1)
     (formula_unwatched over (unwatched options) g) (inside_watched over options g)) answer e
-formula_exact over options (disjunction f g) answer built few_bits state unrefused e w =
-    let parts = and_parts (has_no_reward f) (has_no_reward g) built in
+formula_exact over options (disjunction f g) answer few_bits state unrefused e w =
     let none = none_of (first_refusal over options f) (first_refusal over options g) unrefused in
-    disjunction_exact over options f g (formula_exact over (unwatched options) f (inside over options f) parts.0 few_bits state (refusal_same over options f ∙ none.0)
+    disjunction_exact over options f g (formula_exact over (unwatched options) f (inside over options f) few_bits state (refusal_same over options f ∙ none.0)
     (formula_unwatched over (unwatched options) f) (inside_watched over options f))
-    (formula_exact over (unwatched options) g (inside over options g) parts.1 few_bits state (refusal_same over options g ∙ none.1)
+    (formula_exact over (unwatched options) g (inside over options g) few_bits state (refusal_same over options g ∙ none.1)
     (formula_unwatched over (unwatched options) g) (inside_watched over options g)) answer e
-formula_exact over options (next op q f) answer built few_bits state unrefused e w =
-    next_exact over options op q f (formula_exact over (unwatched options) f (inside over options f) built few_bits state (refusal_same over options f ∙ unrefused)
+formula_exact over options (next op q f) answer few_bits state unrefused e w =
+    next_exact over options op q f (formula_exact over (unwatched options) f (inside over options f) few_bits state (refusal_same over options f ∙ unrefused)
     (formula_unwatched over (unwatched options) f) (inside_watched over options f)) answer e w
-formula_exact over options (until op q f bound g) answer built few_bits state unrefused e w =
-    let parts = and_parts (not (is_reward bound) && has_no_reward f) (has_no_reward g) built in
-    let first = and_parts (not (is_reward bound)) (has_no_reward f) parts.0 in
+formula_exact over options (until op q f bound g) answer few_bits state unrefused e w =
     let operands = first_of (first_refusal over options f) (first_refusal over options g) in
     let none = none_of operands (bound_refusal over options bound) unrefused in
     let both = none_of (first_refusal over options f) (first_refusal over options g) none.0 in
     let left =
-    formula_exact over (unwatched options) f (inside over options f) first.1 few_bits state (refusal_same over options f ∙ both.0)
+    formula_exact over (unwatched options) f (inside over options f) few_bits state (refusal_same over options f ∙ both.0)
     (formula_unwatched over (unwatched options) f) (inside_watched over options f) in
     let right =
-    formula_exact over (unwatched options) g (inside over options g) parts.1 few_bits state (refusal_same over options g ∙ both.1)
+    formula_exact over (unwatched options) g (inside over options g) few_bits state (refusal_same over options g ∙ both.1)
     (formula_unwatched over (unwatched options) g) (inside_watched over options g) in
-    until_exact over options op q f g left right few_bits state bound first.0 none.1 answer
+    until_exact over options op q f g left right few_bits state bound none.1 answer
     (is_due over options op q f g left right few_bits state bound answer e w)

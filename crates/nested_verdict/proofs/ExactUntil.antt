@@ -1,21 +1,24 @@
 -- The answer of an until at each state is exact, by each bound that is answered.
-use Rattle.std.proofs.Common.{ℕ, ◌+◌, ◌^◌, ◌<◌, ◌≤◌, Bool, IsTrue, List, sym, subst, arith}
+use Rattle.std.proofs.Common.{◌≡◌, ℕ, ◌^◌, ◌<◌, ◌≤◌, Bool, IsTrue, List, sym, subst, arith}
 use Rattle.ctmc_semantics.specs.Bracket.{ContainsFrom, ContainsLimit}
+use Rattle.ctmc_semantics.specs.Chain.{Chain}
 use Rattle.ctmc_semantics.specs.Fraction.{Fraction, decimal_fraction}
 use Rattle.ctmc_semantics.specs.Horizon.{horizon}
+use Rattle.ctmc_semantics.specs.Poisson.{until_average}
 use Rattle.ctmc_semantics.specs.Sets.{KnownSets, LieBetween, holds_at}
 use Rattle.ctmc_semantics.specs.Threshold.{Comparison}
+use Rattle.ctmc_semantics.specs.Uniformised.{uniformised}
 use Rattle.ctmc_semantics.specs.WordBracket.{WordBracket}
 use Rattle.ctmc_semantics.proofs.Powers.{power_le}
 use Rattle.command_words.specs.declared.command.Options.{Options}
-use Rattle.csl_semantics.specs.Meaning.{IsSat, comparison_of, load_of, reach_values, time_values}
+use Rattle.csl_semantics.specs.Meaning.{IsSat, comparison_of, reach_values}
 use Rattle.csl_syntax.specs.Tree.{Tree}
 use Rattle.csl_syntax.specs.declared.formula.Op.{Op}
 use Rattle.decimal_text.specs.DecimalNumber.{DecimalNumber}
 use Rattle.model_core.specs.Model.{LabelledChain}
 use Rattle.poisson_tail.specs.declared.layers.TheConstants.{MOST_LAYERS}
 use Rattle.report.specs.declared.answer.Verdict.{Verdict}
-use Rattle.nested_verdict.specs.ExactAnswer.{AreSo, ForEach, IsOutOfReach, AreNearTime, AreNearReach}
+use Rattle.nested_verdict.specs.ExactAnswer.{AreSo, ForEach, IsOutOfReach, AreNearLast, AreNearReach}
 use Rattle.nested_verdict.specs.ExactState.{AreNarrow, IsExactUntil}
 use Rattle.nested_verdict.specs.ThreeValues.{must_list, may_list, verdicts_know}
 use Rattle.nested_verdict.specs.UntilAnswer.{time_words, reach_words, words_answer}
@@ -26,7 +29,7 @@ use Rattle.nested_verdict.proofs.OperandSets.{decided_sets, operands_between, su
 use Rattle.nested_verdict.proofs.Verdicts.{reach_contains, reach_decides, reach_settled, time_contains, time_decides, time_narrow, time_settled}
 use Rattle.nested_verdict.proofs.Widening.{from_widens, limit_widens}
 
-power_of_ten : (k : ℕ) → 0 < 10 ^ k
+pub power_of_ten : (k : ℕ) → 0 < 10 ^ k
 power_of_ten k = omega (arith, power_le 10 0 k (omega arith) (omega arith))
 
 module _ (over : LabelledChain) (options : Options) (op : Op) (q : DecimalNumber) (f g : Tree) (vs ws : List Verdict)
@@ -77,36 +80,38 @@ module _ (over : LabelledChain) (options : Options) (op : Op) (q : DecimalNumber
       (reach_near over.chain sets surely s l options.jumps)
       (reach_settled over.chain sets surely s l options.jumps)
 
-  module _ (t : DecimalNumber) (few : options.bits ≤ 48) (short : horizon (load_of over t) options.bits ≤ MOST_LAYERS) where
-    abbrev load : Fraction
-    load = load_of over t
-
+  -- with a bound on what a load tells of a chain over the same states: the time, or of the dual chain the reward
+  module _ (chain : Chain) (same : over.chain.states ≡ chain.states) (load : Fraction) (some_load : 0 < load.den)
+      (few : options.bits ≤ 48) (short : horizon load options.bits ≤ MOST_LAYERS)
+      (out : (s : ℕ) → IsOutOfReach over.chain (holds_at (may_list vs)) (holds_at (may_list ws)) s
+      → IsOutOfReach chain (holds_at (may_list vs)) (holds_at (may_list ws)) s) where
     abbrev last : ℕ
     last = horizon load options.bits
 
-    some_load : 0 < load.den
-    some_load = power_of_ten (over.rate_decimals + t.x)
+    abbrev values : (ℕ → Bool) → (ℕ → Bool) → ℕ → ℕ → Fraction
+    values live goal s = until_average (uniformised chain) load live goal s
 
-    pub time_exact : (s : ℕ) → s < over.chain.states
-        → IsExactUntil by (ForEach over f g (time_values over t) s)
-        (λ b. ForEach over f g (time_values over t) s (ContainsFrom b last)) (AreNearTime over options t vs ws s)
+    pub load_exact : (s : ℕ) → s < over.chain.states
+        → IsExactUntil by (ForEach over f g values s) (λ b. ForEach over f g values s (ContainsFrom b last))
+        (AreNearLast last options.bits values vs ws s)
         (IsTrue (must_goal s)) (IsOutOfReach over.chain (holds_at (may_list vs)) (holds_at (may_list ws)) s) limit
-        (answer_by (time_words over.chain load options.bits sets s))
-    time_exact s l =
-        words_exact by (ForEach over f g (time_values over t) s) (λ b x. ContainsFrom b last x) (AreNearTime over options t vs ws s)
-        limit (time_words over.chain load options.bits sets s) (power_of_ten q.x) (more (time_values over t) s)
-        (λ x. from_widens last x) (time_values over t must_live must_goal s)
-        (time_decides over.chain sets surely s l load options.bits some_load few must_live must_goal surely)
+        (answer_by (time_words chain load options.bits sets s))
+    load_exact s inside =
+        let l : s < chain.states = omega (arith, inside, same) in
+        words_exact by (ForEach over f g values s) (λ b x. ContainsFrom b last x) (AreNearLast last options.bits values vs ws s)
+        limit (time_words chain load options.bits sets s) (power_of_ten q.x) (more values s)
+        (λ x. from_widens last x) (values must_live must_goal s)
+        (time_decides chain sets surely s l load options.bits some_load few must_live must_goal surely)
         (λ ys zs stands other.
-        time_decides over.chain sets surely s l load options.bits some_load few (holds_at ys) (holds_at zs) (between ys zs stands other))
+        time_decides chain sets surely s l load options.bits some_load few (holds_at ys) (holds_at zs) (between ys zs stands other))
         (λ ys zs stands other.
-        time_contains over.chain sets surely s l load options.bits some_load few (holds_at ys) (holds_at zs) (between ys zs stands other))
+        time_contains chain sets surely s l load options.bits some_load few (holds_at ys) (holds_at zs) (between ys zs stands other))
         (IsTrue (must_goal s)) (IsOutOfReach over.chain (holds_at (may_list vs)) (holds_at (may_list ws)) s)
         (record {
-          near = time_near over.chain sets surely s l load options.bits some_load few short;
+          near = time_near chain sets surely s l load options.bits some_load few short;
           narrow = λ d e.
-              subst (λ known. AreNarrow last options.bits (time_words over.chain load options.bits known s))
-              (sym (decided_sets vs ws d e))
-              (time_narrow over.chain must_live must_goal s l load options.bits some_load few short);
+              subst (λ known. AreNarrow last options.bits (time_words chain load options.bits known s)) (sym (decided_sets vs ws d e))
+              (time_narrow chain must_live must_goal s l load options.bits some_load few short);
         })
-        (time_settled over.chain sets surely s l load options.bits some_load few)
+        (let settled = time_settled chain sets surely s l load options.bits some_load few in
+        record { one = settled.one; none = λ h. settled.none (out s h) })

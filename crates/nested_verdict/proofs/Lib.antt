@@ -18,6 +18,7 @@ pub mod FormulaAnswers
 pub mod Unwatched
 pub mod ExactNext
 pub mod ShownUntil
+pub mod RewardBound
 pub mod ExactUntil
 pub mod ExactFormulas
 pub mod ReadStates

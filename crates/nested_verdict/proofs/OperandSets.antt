@@ -26,7 +26,7 @@ sat_counted over (disjunction f g) xs h = h.holds.each
 sat_counted over (next op q f) xs h = h.holds.each
 sat_counted over (until op q f Unbounded g) xs h = h.holds.each
 sat_counted over (until op q f (Time t) g) xs h = h.holds.each
-sat_counted over (until op q f (Reward r) g) xs h = absurd h
+sat_counted over (until op q f (Reward r) g) xs h = h.1.holds.each
 
 -- ---- one state
 sure_so : (holds : Bool) (v : Verdict) → IsSo holds v → IsTrue (is_sure v) → IsTrue holds

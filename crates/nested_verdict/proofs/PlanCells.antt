@@ -1,5 +1,5 @@
 -- A plan that isn't refused fits on a board.
-use Rattle.std.proofs.Common.{◌≡◌, ℕ, suc, ◌+◌, ◌*◌, ◌≤◌, Bool, true, false, if◌then◌else◌, nat_lt, Some, None, length, refl, sym, subst₂, arith}
+use Rattle.std.proofs.Common.{◌≡◌, ℕ, suc, ◌+◌, ◌*◌, ◌≤◌, Bool, true, false, if◌then◌else◌, nat_lt, Some, None, length, refl, sym, ap, ◌∙◌, subst₂, arith}
 use Rattle.std.proofs.lemmas.Bool.{ltb-false}
 use Rattle.ctmc_semantics.specs.Horizon.{horizon}
 use Rattle.command_words.specs.declared.command.Options.{Options}
@@ -14,8 +14,10 @@ use Rattle.step_core.specs.SoundPlan.{IsSoundPlan}
 use Rattle.step_core.specs.declared.plan_error.PlanError.{PlanError}
 use Rattle.step_core.specs.declared.plan_error.PlanError.TheVariants.{TooLong, TooLarge}
 use Rattle.uniformise.specs.TimePlan.{table_refusal, plan_refusal}
-use Rattle.uniformise.specs.declared.time_bound.TheConstants.{MOST_WORDS}
-use Rattle.nested_verdict.specs.UntilPlan.{IsPlanOf, bound_refusal, last_jumps}
+use Rattle.uniformise.specs.declared.limits.TheConstants.{MOST_WORDS}
+use Rattle.csl_semantics.specs.Dual.{reward_load}
+use Rattle.reward_dual.proofs.Accepted.{accepted}
+use Rattle.nested_verdict.specs.UntilPlan.{IsPlanOf, bound_refusal, last_jumps, load_by}
 
 none_not_some : (x : PlanError) → None ≡ Some x → ⊥
 none_not_some x e = cc
@@ -42,17 +44,17 @@ module _ (over : LabelledChain) (options : Options) (sets : SetLists) (plan : Pl
   pub plan_sound : (bound : Bound) → IsPlanOf over options bound sets plan → IsSoundPlan plan
   plan_sound Unbounded is = is.sound
   plan_sound (Time t) is = is.sound
-  plan_sound (Reward r) is = absurd is
+  plan_sound (Reward r) is = is.is.sound
 
   pub plan_last : (bound : Bound) → IsPlanOf over options bound sets plan → plan.layers ≡ last_jumps over options bound
   plan_last Unbounded is = is.last
   plan_last (Time t) is = is.fits.last_layer
-  plan_last (Reward r) is = absurd is
+  plan_last (Reward r) is = is.is.fits.last_layer ∙ ap (λ o. horizon (load_by over r o) options.bits) (sym is.earns.are)
 
   pub plan_states : (bound : Bound) → IsPlanOf over options bound sets plan → length plan.frame.rows ≡ over.chain.states
   plan_states Unbounded is = is.rows.same_states
   plan_states (Time t) is = is.rows.same_states
-  plan_states (Reward r) is = absurd is
+  plan_states (Reward r) is = is.is.rows.same_states
 
   cells : (last : ℕ) → plan.layers ≡ last → length plan.frame.rows ≡ over.chain.states → suc last * over.chain.states ≤ MOST_WORDS
       → (plan.layers + 1) * length plan.frame.rows ≤ 8388608
@@ -66,4 +68,10 @@ module _ (over : LabelledChain) (options : Options) (sets : SetLists) (plan : Pl
   few_cells (Time t) is e =
       let last = horizon (load_of over t) options.bits in
       cells last is.fits.last_layer is.rows.same_states (few last over.chain.states e).1
-  few_cells (Reward r) is e = absurd is
+  few_cells (Reward r) is e =
+      let a = accepted over options.bits r e in
+      let same : reward_load over is.earns.rewards r ≡ reward_load over a.earns.rewards r =
+      ap (λ o. load_by over r o) (sym is.earns.are ∙ a.earns.are) in
+      let last = horizon (reward_load over a.earns.rewards r) options.bits in
+      cells last (is.is.fits.last_layer ∙ ap (λ load. horizon load options.bits) same) is.is.rows.same_states
+      (few last over.chain.states a.plan).1

@@ -1,5 +1,5 @@
 -- The words of a plan are those of its until.
-use Rattle.std.proofs.Common.{◌≡◌, ℕ, ◌<◌, Bool, List, cond, IsTrue, ap, subst, ◌∙◌, length, arith}
+use Rattle.std.proofs.Common.{◌≡◌, ℕ, ◌<◌, Bool, List, cond, IsTrue, ap, subst, ◌∙◌, length, arith, sym}
 use Rattle.std.specs.Prelude.{slice_index}
 use Rattle.std.proofs.lemmas.List.FromFn.{fill_by_all, get_or-map-range_with_len, length-map-range_with_len}
 use Rattle.ctmc_semantics.specs.Chain.{Chain}
@@ -32,7 +32,8 @@ use Rattle.uniformise.specs.TimePlan.{IsTimePlan}
 use Rattle.uniformise.specs.UnboundedPlan.{IsUnboundedPlan}
 use Rattle.nested_verdict.specs.UntilAnswer.{time_words, reach_words, state_words, words_answer, first_answers, until_answers, plan_answers, listed_words, bracket_answers}
 use Rattle.nested_verdict.specs.ThreeValues.{verdict_sets, verdicts_know}
-use Rattle.nested_verdict.specs.UntilPlan.{IsPlanOf}
+use Rattle.csl_semantics.specs.Dual.{dual, reward_load}
+use Rattle.nested_verdict.specs.UntilPlan.{IsPlanOf, dual_by, load_by}
 use Rattle.report.specs.declared.answer.Verdict.{Verdict}
 use Rattle.nested_verdict.proofs.ChainWalks.{reach_is}
 use Rattle.nested_verdict.proofs.PlanCells.{plan_states}
@@ -211,7 +212,10 @@ module _ (over : LabelledChain) (options : Options) (vs ws : List Verdict) (plan
       → one_thread_words plan s ≡ state_words over options bound (verdicts_know vs ws) s
   words_are Unbounded is s inside = reach_words_are over.chain options.jumps vs ws plan is s inside
   words_are (Time t) is s inside = time_words_are over.chain (load_of over t) options.bits vs ws plan is s inside
-  words_are (Reward r) is s inside = absurd is
+  words_are (Reward r) is s inside =
+      let rewards = is.earns.rewards in
+      time_words_are (dual over.chain rewards.reward) (reward_load over rewards r) options.bits vs ws plan is.is s inside
+      ∙ ap (λ o. time_words (dual_by over o) (load_by over r o) options.bits (verdicts_know vs ws) s) (sym is.earns.are)
 
   pub plan_answers_are : (bound : Bound) → IsPlanOf over options bound (verdict_sets vs ws) plan → (by : Comparison) (q : Fraction)
       → plan_answers plan by q ≡ until_answers over options bound (verdicts_know vs ws) by q

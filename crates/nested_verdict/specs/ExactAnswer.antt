@@ -10,11 +10,11 @@ use Rattle.ctmc_semantics.specs.Threshold.{Comparison}
 use Rattle.ctmc_semantics.specs.Uniformised.{uniformised}
 use Rattle.ctmc_semantics.specs.WordBracket.{WordBracket}
 use Rattle.command_words.specs.declared.command.Options.{Options}
-use Rattle.csl_semantics.specs.Meaning.{IsSat, comparison_of, load_of, time_values, reach_values}
+use Rattle.csl_semantics.specs.Dual.{EarnsEverywhere, reward_load}
+use Rattle.csl_semantics.specs.Meaning.{IsSat, comparison_of, load_of, time_values, reach_values, reward_values}
 use Rattle.csl_syntax.specs.Tree.{Tree, truth, falsehood, label, negation, conjunction, disjunction, next, until}
 use Rattle.csl_syntax.specs.declared.formula.Bound.{Bound}
 use Rattle.csl_syntax.specs.declared.formula.Bound.TheVariants.{Unbounded, Time, Reward}
-use Rattle.decimal_text.specs.DecimalNumber.{DecimalNumber}
 use Rattle.model_core.specs.Model.{LabelledChain}
 use Rattle.report.specs.Answer.{AnswerLists}
 use Rattle.report.specs.declared.answer.Printed.{Printed}
@@ -98,32 +98,40 @@ pub record ShowsUntil (over : LabelledChain) (options : Options) (f g : Tree) (s
   pub watches : IsSomeAnd (slice_get states options.state)
       (λ printed. AreWatched options.watch (λ b. ForEach over f g values options.state (Contains b)) printed watched)
 
--- the words are near what the operands' verdicts allow, and narrow where these are decided at each state
-pub record AreNearTime (over : LabelledChain) (options : Options) (t : DecimalNumber) (live goal : List Verdict) (s : ℕ)
+-- the words are near what the operands' verdicts allow of a bounded until with these values, and narrow where these are decided at each
+-- state
+pub record AreNearLast (last bits : ℕ) (values : (ℕ → Bool) → (ℕ → Bool) → ℕ → ℕ → Fraction) (live goal : List Verdict) (s : ℕ)
     (words : WordBracket) : Type 0 where
-  pub near : IsNearTime (horizon (load_of over t) options.bits) options.bits
-      (time_values over t (holds_at (must_list live)) (holds_at (must_list goal)) s)
-      (time_values over t (holds_at (may_list live)) (holds_at (may_list goal)) s) words
-  pub narrow : AreDecided live → AreDecided goal → AreNarrow (horizon (load_of over t) options.bits) options.bits words
+  pub near : IsNearTime last bits (values (holds_at (must_list live)) (holds_at (must_list goal)) s)
+      (values (holds_at (may_list live)) (holds_at (may_list goal)) s) words
+  pub narrow : AreDecided live → AreDecided goal → AreNarrow last bits words
 
 abbrev pub AreNearReach : LabelledChain → Options → List Verdict → List Verdict → ℕ → WordBracket → Type 0
 AreNearReach over options live goal s words =
     IsNearReach options.jumps (uniformised over.chain) (verdicts_know live goal)
     (can_reach over.chain.states over.chain.rate (holds_at (may_list live)) (holds_at (may_list goal))) s words
 
--- what is shown of an until over operands with these verdicts is exact. The bracket of one with a time bound contains each average from the
--- horizon on; that of one without a bound has a lower end that is reached within the jumps that are looked at, and an upper end that no number
--- of jumps passes
+-- what is shown of an until with a bound on the time or on the reward: each bracket contains each average from the horizon on
+abbrev pub ShowsBounded : LabelledChain → Options → Tree → Tree → List Verdict → List Verdict → Comparison → ℕ
+    → ((ℕ → Bool) → (ℕ → Bool) → ℕ → ℕ → Fraction) → Fraction → AnswerLists → Type 0
+ShowsBounded over options f g live goal by last values q answer =
+    ShowsUntil over options f g (verdicts_know live goal) by last values (λ b x. ContainsFrom b last x)
+    (AreNearLast last options.bits values live goal) q answer
+
+-- what is shown of an until over operands with these verdicts is exact. The bracket of one with a bound on the time or on the reward
+-- contains each average from the horizon on; that of one without a bound has a lower end that is reached within the jumps that are looked
+-- at, and an upper end that no number of jumps passes
 abbrev pub ShowsBound : LabelledChain → Options → Bound → Tree → Tree → List Verdict → List Verdict → Comparison → Fraction → AnswerLists
     → Type 0
 ShowsBound over options Unbounded f g live goal by q answer =
     ShowsUntil over options f g (verdicts_know live goal) by options.jumps (reach_values over) (λ b x. ContainsLimit b options.jumps x)
     (AreNearReach over options live goal) q answer
 ShowsBound over options (Time t) f g live goal by q answer =
-    let last = horizon (load_of over t) options.bits in
-    ShowsUntil over options f g (verdicts_know live goal) by last (time_values over t) (λ b x. ContainsFrom b last x)
-    (AreNearTime over options t live goal) q answer
-ShowsBound over options (Reward r) f g live goal by q answer = ⊥
+    ShowsBounded over options f g live goal by (horizon (load_of over t) options.bits) (time_values over t) q answer
+ShowsBound over options (Reward r) f g live goal by q answer =
+    (earns : EarnsEverywhere over)
+    × ShowsBounded over options f g live goal by (horizon (reward_load over earns.rewards r) options.bits)
+    (reward_values over earns.rewards r) q answer
 
 -- ---- formulas
 -- inside a formula nothing is watched

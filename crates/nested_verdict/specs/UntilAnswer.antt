@@ -3,7 +3,6 @@ use Rattle.std.specs.Prelude.{ℕ, List, map, length}
 use Rattle.std.specs.List.{range_with_len}
 use Rattle.ctmc_semantics.specs.Chain.{Chain}
 use Rattle.ctmc_semantics.specs.Fraction.{Fraction}
-use Rattle.ctmc_semantics.specs.RoundedTables.{one_word}
 use Rattle.ctmc_semantics.specs.Rows.{rows_of}
 use Rattle.ctmc_semantics.specs.Sets.{KnownSets}
 use Rattle.ctmc_semantics.specs.Threshold.{Comparison}
@@ -20,6 +19,7 @@ use Rattle.report.specs.declared.answer.Printed.{Printed}
 use Rattle.step_core.specs.PlanLists.{PlanLists}
 use Rattle.step_core.specs.WalkFound.{can_reach}
 use Rattle.step_core.specs.declared.bracket.Bracket.{Bracket}
+use Rattle.nested_verdict.specs.UntilPlan.{dual_by, load_by}
 use Rattle.nested_verdict.specs.BracketAnswer.{bracket_answer, printed_units}
 use Rattle.nested_verdict.specs.declared.state_answer.StateAnswer.{StateAnswer}
 
@@ -40,7 +40,8 @@ reach_words chain jumps sets s =
 abbrev pub state_words : LabelledChain → Options → Bound → KnownSets → ℕ → WordBracket
 state_words over options Unbounded sets s = reach_words over.chain options.jumps sets s
 state_words over options (Time t) sets s = time_words over.chain (load_of over t) options.bits sets s
-state_words over options (Reward r) sets s = record { lower = 0; upper = one_word }
+state_words over options (Reward r) sets s =
+    time_words (dual_by over over.rewards) (load_by over r over.rewards) options.bits sets s
 
 -- the answer of a state whose probability lies between the words
 abbrev pub words_answer : Comparison → WordBracket → Fraction → StateAnswer

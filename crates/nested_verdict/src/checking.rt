@@ -1,7 +1,6 @@
 // The answer to a formula over a model.
 ghost use Rattle.std.specs.Prelude.{◌≡◌, ◌<◌, ◌≤◌, length, IfOk, IsTrue, not, Some, None};
 ghost use Rattle.command_words.specs.Laws.{AreInRange};
-ghost use Rattle.csl_semantics.specs.Truth.{has_no_reward};
 ghost use Rattle.csl_syntax.specs.Tree.{tree_of, IsOver};
 ghost use Rattle.model_core.specs.Model.{labelled_chain};
 ghost use Rattle.report.specs.Answer.{answer_lists};
@@ -45,7 +44,6 @@ pub fn check<R: Threads + Sync, G: Gate>(
     gate: &G,
 ) -> Result<Answer, CheckFault>
     requires over { IsOver (length model.now.names) (tree_of formula.now) }
-    requires built { IsTrue (has_no_reward (tree_of formula.now)) }
     requires options { AreInRange options.now }
     requires state { options.now.state < model.now.n }
     ensures answer { IfOk result (λ answer. unwatched_answer (answer_lists answer)
@@ -85,7 +83,6 @@ fn verdicts<R: Threads + Sync, G: Gate>(
     gate: &G,
 ) -> Result<Vec<Verdict>, CheckFault>
     requires over { IsOver (length model.now.names) (tree_of formula.now) }
-    requires built { IsTrue (has_no_reward (tree_of formula.now)) }
     requires options { AreInRange options.now }
     requires state { options.now.state < model.now.n }
     ensures verdicts { IfOk result (λ verdicts. verdicts.items
@@ -134,7 +131,6 @@ fn operator_answer<R: Threads + Sync, G: Gate>(
     gate: &G,
 ) -> Result<Answer, CheckFault>
     requires over { IsOver (length model.now.names) (tree_of formula.now) }
-    requires built { IsTrue (has_no_reward (tree_of formula.now)) }
     requires operator { IsTrue (not (is_connective (tree_of formula.now))) }
     requires options { AreInRange options.now }
     requires state { options.now.state < model.now.n }

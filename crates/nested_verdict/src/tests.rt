@@ -1,8 +1,4 @@
 // Answers to formulas over small models, and what is asserted of them.
-ghost use Rattle.std.specs.Prelude.{◌≡◌};
-ghost use Rattle.csl_semantics.specs.Truth.{has_no_reward, is_reward};
-ghost use Rattle.csl_syntax.specs.Tree.{tree_of};
-
 mod connectives;
 mod faults;
 mod gates;
@@ -13,7 +9,7 @@ mod shown;
 
 use super::*;
 use command_words::Options;
-use csl_syntax::{Bound, Formula, formulas_are_over_labels, parse};
+use csl_syntax::{formulas_are_over_labels, parse};
 use lab_reader::read_lab;
 use model_core::Model;
 use outside::{Gate, OpenGate};
@@ -59,33 +55,6 @@ const ONE: Printed = Printed {
     high: 1_000_000_000_000,
 };
 
-fn has_no_reward(formula: &Formula) -> bool
-    ensures { result ≡ has_no_reward (tree_of formula.now) }
-{
-    match formula {
-        Formula::Tt => true,
-        Formula::Ff => true,
-        Formula::Label(_) => true,
-        Formula::Not(operand) => has_no_reward(operand),
-        Formula::And(left, right) => has_no_reward(left) && has_no_reward(right),
-        Formula::Or(left, right) => has_no_reward(left) && has_no_reward(right),
-        Formula::Next(_, _, operand) => has_no_reward(operand),
-        Formula::Until(_, _, left, bound, right) => {
-            !bounds_reward(bound) && has_no_reward(left) && has_no_reward(right)
-        }
-    }
-}
-
-fn bounds_reward(bound: &Bound) -> bool
-    ensures { result ≡ is_reward bound.now }
-{
-    match bound {
-        Bound::Unbounded => false,
-        Bound::Time(_) => false,
-        Bound::Reward(_) => true,
-    }
-}
-
 // The answer to the line, or why there is none.
 fn ask_gated<R: Threads + Sync + Abort, G: Gate>(
     rt: &R,
@@ -100,7 +69,6 @@ fn ask_gated<R: Threads + Sync + Abort, G: Gate>(
     let model = Model::build(alloc, tra, lab, None)?;
     let formula = parse(alloc, line, model.labels())?;
     formulas_are_over_labels();
-    assert!(rt; has_no_reward(&formula), "{line:?}");
     assert!(rt; 1 <= options.workers && options.workers <= 64);
     assert!(rt; 8 <= options.bits && options.bits <= 48);
     assert!(rt; 1 <= options.jumps && options.jumps <= 16_384);

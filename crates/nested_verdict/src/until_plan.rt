@@ -1,7 +1,6 @@
 // The plan of an until, by its bound.
-ghost use Rattle.std.specs.Prelude.{◌≡◌, ◌≢◌, IsTrue, not, Some, None, IfOk, IfErr, length};
+ghost use Rattle.std.specs.Prelude.{◌≡◌, ◌≢◌, Some, None, IfOk, IfErr, length};
 ghost use Rattle.command_words.specs.Laws.{AreInRange};
-ghost use Rattle.csl_semantics.specs.Truth.{is_reward};
 ghost use Rattle.model_core.specs.Model.{labelled_chain};
 ghost use Rattle.nested_verdict.specs.ThreeValues.{verdict_sets};
 ghost use Rattle.nested_verdict.specs.UntilPlan.{bound_refusal, IsPlanOf};
@@ -11,6 +10,7 @@ use command_words::Options;
 use csl_syntax::Bound;
 use model_core::Model;
 use report::Verdict;
+use reward_dual::reward_plan;
 use std::alloc::Global;
 use step_core::{Plan, PlanError};
 use uniformise::{time_plan, unbounded_plan};
@@ -25,7 +25,6 @@ pub(crate) fn until_plan(
     bound: &Bound,
     options: &Options,
 ) -> Result<Plan, PlanError>
-    requires built { IsTrue (not (is_reward bound.now)) }
     requires live { length live.now ≡ model.now.n }
     requires goal { length goal.now ≡ model.now.n }
     requires options { AreInRange options.now }
@@ -38,6 +37,6 @@ pub(crate) fn until_plan(
     match bound {
         Bound::Time(time) => time_plan(alloc, model, sets, *time, options.bits),
         Bound::Unbounded => unbounded_plan(alloc, model, sets, options.jumps),
-        Bound::Reward(_) => unreachable!(),
+        Bound::Reward(reward) => reward_plan(alloc, model, sets, *reward, options.bits),
     }
 }

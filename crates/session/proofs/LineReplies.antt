@@ -1,8 +1,7 @@
 -- Each line of the formulas has a reply, and each list of lines a list of replies; they are one but for the brackets of the watched state.
-use Rattle.std.proofs.Common.{◌≡◌, ℕ, ◌⊎◌, inl, inr, Bool, true, false, if◌then◌else◌, List, [], ◌∷◌, Option, Some, None, refl, sym, ap, ◌∙◌}
+use Rattle.std.proofs.Common.{◌≡◌, ℕ, ◌⊎◌, inl, inr, List, [], ◌∷◌, Option, Some, None, refl, sym, ap, ◌∙◌}
 use Rattle.std.specs.List.{AllZip}
 use Rattle.command_words.specs.declared.command.Options.{Options}
-use Rattle.csl_semantics.specs.Truth.{has_no_reward}
 use Rattle.csl_syntax.specs.CanonicalText.{formula_text}
 use Rattle.csl_syntax.specs.FormulaFault.{FormulaFaultAt}
 use Rattle.csl_syntax.specs.Laws.{SaysSomeFormula, HasSomeFormulaFault}
@@ -14,7 +13,7 @@ use Rattle.model_core.specs.Model.{LabelledChain}
 use Rattle.report.specs.Answer.{AnswerLists}
 use Rattle.nested_verdict.specs.FormulaAnswer.{formula_answer, first_refusal}
 use Rattle.session.specs.FormulaLines.{formula_lines}
-use Rattle.session.specs.LineReply.{LineReply, Answered, Faulty, NotBuilt, Refused, NumberedReply, reply_unless, formula_reply, unwatched_reply, unwatched_replies, RepliesTo}
+use Rattle.session.specs.LineReply.{LineReply, Answered, Faulty, Refused, NumberedReply, reply_unless, formula_reply, unwatched_reply, unwatched_replies, RepliesTo}
 use Rattle.session.specs.LineReply.{IsLineReply, IsReplyTo, AreReplies}
 use Rattle.session.proofs.Unwatched.{computed_unwatched, filled_reply, filled_unwatched, filled_watched, reply_whole}
 use Rattle.step_core.specs.declared.plan_error.PlanError.{PlanError}
@@ -32,7 +31,6 @@ module _ (over : LabelledChain) (options : Options) (line : List ℕ) where
   formula_or_told : (reply : LineReply) → IsLineReply over options line reply → RepliesTo over options line reply ⊎ TellsFault reply
   formula_or_told (Answered text answer) h = inl h
   formula_or_told (Faulty fault) h = inr (record { fault = fault; has = h; is = refl })
-  formula_or_told NotBuilt h = inl h
   formula_or_told (Refused refusal) h = inl h
 
   fault_of : ℕ → FormulaWhat → FormulaFault
@@ -60,19 +58,17 @@ module _ (over : LabelledChain) (options : Options) (line : List ℕ) where
           ap unwatched_reply (p.is ∙ ap Faulty (same_fault p.fault q.fault p.has q.has) ∙ sym q.is)
 
   -- the reply to a formula tells no fault
-  tells_none : (fault : FormulaFault) (built : Bool) (refusal : Option PlanError) (text : List ℕ) (answer : AnswerLists)
-      → Faulty fault ≡ (if built then reply_unless refusal (Answered text answer) else NotBuilt) → ⊥
-  tells_none fault false refusal text answer e = cc
-  tells_none fault true None text answer e = cc
-  tells_none fault true (Some r) text answer e = cc
+  tells_none : (fault : FormulaFault) (refusal : Option PlanError) (text : List ℕ) (answer : AnswerLists)
+      → Faulty fault ≡ reply_unless refusal (Answered text answer) → ⊥
+  tells_none fault None text answer e = cc
+  tells_none fault (Some r) text answer e = cc
 
   -- the reply to a formula is that to the line that stands for it
   pub is_line_reply : (reply : LineReply) → RepliesTo over options line reply → IsLineReply over options line reply
   is_line_reply (Answered text answer) h = h
   is_line_reply (Faulty fault) h =
-      absurd (tells_none fault (has_no_reward h.formula) (first_refusal over options h.formula) (formula_text over.names h.formula)
+      absurd (tells_none fault (first_refusal over options h.formula) (formula_text over.names h.formula)
       (formula_answer over options h.formula) h.is)
-  is_line_reply NotBuilt h = h
   is_line_reply (Refused refusal) h = h
 
   -- each line has a reply
@@ -140,7 +136,6 @@ module _ (over : LabelledChain) (options : Options) where
     whole_reply : (line : List ℕ) (reply : LineReply) → IsLineReply over options line reply → unwatched_reply reply ≡ reply
     whole_reply line (Answered text answer) h = reply_whole options none (Answered text answer) h.watched
     whole_reply line (Faulty fault) h = refl
-    whole_reply line NotBuilt h = refl
     whole_reply line (Refused refusal) h = refl
 
     pub whole_replies : (lines : List LineText) (xs : List NumberedReply) → AllZip (IsReplyTo over options) lines xs

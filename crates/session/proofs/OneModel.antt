@@ -82,6 +82,7 @@ module _ (pairs : List Pair) where
   pub record SameModel (command : Spoken) (a b : TakesModel command (Some pairs)) : Type 0 where
     pub tra : a.tra ≡ b.tra
     pub lab : a.lab ≡ b.lab
+    pub rew : a.rew ≡ b.rew
 
   module _ (command : Spoken) where
     -- the labels that follow one chain follow the other
@@ -89,15 +90,26 @@ module _ (pairs : List Pair) where
         → TakesLab u.n command.lab (Some pairs) b → a ≡ b
     lab_after t u a b e p q = one_lab t.n command.lab a b p (subst (λ x. TakesLab x.n command.lab (Some pairs) b) (sym e) q)
 
+    -- and so do the rewards
+    rew_after : (t u : TraLists) (a b : Option RewLists) → t ≡ u → TakesRew t.n command.rew (Some pairs) a
+        → TakesRew u.n command.rew (Some pairs) b → a ≡ b
+    rew_after t u a b e p q = one_rew t.n command.rew a b p (subst (λ x. TakesRew x.n command.rew (Some pairs) b) (sym e) q)
+
     pub one_model : (a b : TakesModel command (Some pairs)) → SameModel command a b
     one_model a b =
         let tra : a.tra ≡ b.tra = one_tra command.tra a.tra b.tra a.takes_tra b.takes_tra in
-        record { tra = tra; lab = lab_after a.tra b.tra a.lab b.lab tra a.takes_lab b.takes_lab }
+        record {
+          tra = tra;
+          lab = lab_after a.tra b.tra a.lab b.lab tra a.takes_lab b.takes_lab;
+          rew = rew_after a.tra b.tra a.rew b.rew tra a.takes_rew b.takes_rew;
+        }
 
     pub one_chain : (a b : TakesModel command (Some pairs)) → model_of a ≡ model_of b
     one_chain a b =
         let same = one_model a b in
-        ap (λ tra. files_chain tra a.lab) same.tra ∙ ap (files_chain b.tra) same.lab
+        ap (λ tra. files_chain tra a.lab a.rew) same.tra
+        ∙ ap (λ lab. files_chain b.tra lab a.rew) same.lab
+        ∙ ap (files_chain b.tra b.lab) same.rew
 
     -- files that stand for a model have no fault
     pub no_model_fault : (a : TakesModel command (Some pairs)) (f : Which) (line : ℕ) (what : FileWhat)

@@ -1,5 +1,5 @@
 -- What the top call promises, from what it read and wrote.
-use Rattle.std.proofs.Common.{◌≡◌, ℕ, ◌⊎◌, inl, inr, List, ◌++◌, Option, Some, None, IfSome, IsSomeAnd, Ok, refl, sym, ap, ◌∙◌, subst, append-nil, Bool, true, false, ◌&&◌, [], ◌∷◌, if◌then◌else◌}
+use Rattle.std.proofs.Common.{◌≡◌, ℕ, option_map, ◌⊎◌, inl, inr, List, ◌++◌, Option, Some, None, IfSome, IsSomeAnd, Ok, refl, sym, ap, ◌∙◌, subst, append-nil, Bool, true, false, ◌&&◌, [], ◌∷◌, if◌then◌else◌}
 use Rattle.std.specs.Io.KnownBytes.{Appends, Keeps}
 use Rattle.std.proofs.KnownBytes.{Appends-kept}
 use Rattle.std.specs.List.Sorted.{IsPermutation}
@@ -8,13 +8,15 @@ use Rattle.std.proofs.Common.{rules}
 use Rattle.command_words.specs.Command.{Spoken}
 use Rattle.command_words.proofs.OneCommand.{options_in_range}
 use Rattle.model_core.specs.declared.rate.Rate.{Rate}
-use Rattle.model_core.specs.Model.{ModelLists, has_label, model_chain, labelled_chain}
+use Rattle.model_core.specs.Model.{LabelledChain, listed_rewards, ModelLists, has_label, model_chain, labelled_chain}
+use Rattle.ctmc_semantics.specs.Chain.{Chain}
+use Rattle.model_core.specs.Files.{RewLists}
 use Rattle.model_core.specs.Transitions.{chain_of}
 use Rattle.outside.specs.Shelf.{Pair}
 use Rattle.outside.specs.Whole.{WritesFront}
 use Rattle.session.specs.Command.{IsCommandOf, Say, names_of}
 use Rattle.session.specs.ExactReply.{RepliesExactly, RefusesLongInput}
-use Rattle.session.specs.LineReply.{LineReply, Answered, Faulty as NotAFormula, NotBuilt, Refused as NoPlan, NumberedReply, AreReplies, all_answered, is_answer, unwatched_reply, unwatched_replies}
+use Rattle.session.specs.LineReply.{LineReply, Answered, Faulty as NotAFormula, Refused as NoPlan, NumberedReply, AreReplies, all_answered, is_answer, unwatched_reply, unwatched_replies}
 use Rattle.session.specs.FormulaLines.{formula_lines}
 use Rattle.command_words.specs.Words.{AreCommand}
 use Rattle.session.specs.ModelFiles.{IsFileFaulty, model_of}
@@ -81,25 +83,20 @@ module _ (command : Spoken) (files : Option (List Pair)) (model : ModelLists) (i
   -- the model holds the labelled chain of the files
   pub labelled_is : labelled_chain model ≡ model_of is.takes
   labelled_is =
-      ap (λ c. record { chain = c; rate_decimals = model.scale; names = model.names; has = has_label model.marks }) chain_is
-      ∙ ap (λ d. record {
-        chain = chain_of is.takes.tra.n is.takes.tra.rates;
+      let with : Chain → ℕ → List (List ℕ) → List ℕ → Option RewLists → LabelledChain =
+      λ (c : Chain) (d : ℕ) (ns : List (List ℕ)) (ms : List ℕ) (rew : Option RewLists). record {
+        chain = c;
         rate_decimals = d;
-        names = model.names;
-        has = has_label model.marks;
-      }) is.built.scale
-      ∙ ap (λ n. record {
-        chain = chain_of is.takes.tra.n is.takes.tra.rates;
-        rate_decimals = is.takes.tra.scale;
-        names = n;
-        has = has_label model.marks;
-      }) is.built.names
-      ∙ ap (λ m. record {
-        chain = chain_of is.takes.tra.n is.takes.tra.rates;
-        rate_decimals = is.takes.tra.scale;
-        names = is.takes.lab.names;
-        has = has_label m;
-      }) is.built.marks
+        names = ns;
+        has = has_label ms;
+        rewards = option_map listed_rewards rew;
+      } in
+      let chain = chain_of is.takes.tra.n is.takes.tra.rates in
+      ap (λ c. with c model.scale model.names model.marks model.rewards) chain_is
+      ∙ ap (λ d. with chain d model.names model.marks model.rewards) is.built.scale
+      ∙ ap (λ n. with chain is.takes.tra.scale n model.marks model.rewards) is.built.names
+      ∙ ap (λ m. with chain is.takes.tra.scale is.takes.lab.names m model.rewards) is.built.marks
+      ∙ ap (λ r. with chain is.takes.tra.scale is.takes.lab.names is.takes.lab.marks r) is.built.rewards
 
 module _ (files : Option (List Pair)) (before now : Option (List ℕ)) where
   replies_of : (command : Spoken) (input : Input) (replies : List NumberedReply) → IsInputOf command files before now input
@@ -182,7 +179,6 @@ appended written text (Some xs) p = ap Some p
 same_answer : (reply : LineReply) → is_answer (unwatched_reply reply) ≡ is_answer reply
 same_answer (Answered text answer) = refl
 same_answer (NotAFormula fault) = refl
-same_answer NotBuilt = refl
 same_answer (NoPlan refusal) = refl
 
 same_answered : (replies : List NumberedReply) → all_answered (unwatched_replies replies) ≡ all_answered replies

@@ -1,5 +1,5 @@
 -- Replies but for the brackets of the watched state, and such brackets as an answer may have.
-use Rattle.std.proofs.Common.{◌≡◌, ℕ, ◌<◌, Bool, true, false, if◌then◌else◌, List, [], ◌∷◌, length, replicate, get_or, Option, Some, None, option_map, refl, sym, ap, ◌∙◌, subst, subst₂, arith, length-append, inl, inr}
+use Rattle.std.proofs.Common.{◌≡◌, ℕ, ◌<◌, List, [], ◌∷◌, length, replicate, get_or, Option, Some, None, option_map, refl, sym, ap, ◌∙◌, subst, subst₂, arith, length-append, inl, inr}
 use Rattle.std.specs.Prelude.{slice_get, slice_index_or}
 use Rattle.std.proofs.lemmas.List.{get_or-replicate, length-replicate}
 use Rattle.std.proofs.Math.Seq.{get_or-append_seam}
@@ -7,14 +7,13 @@ use Rattle.std.proofs.lemmas.Bool.{cases_lt}
 use Rattle.std.proofs.lemmas.Option.{slice_get-get_or, slice_get_past}
 use Rattle.ctmc_semantics.specs.Bracket.{Bracket, Encloses}
 use Rattle.command_words.specs.declared.command.Options.{Options}
-use Rattle.csl_semantics.specs.Truth.{has_no_reward}
 use Rattle.csl_syntax.specs.CanonicalText.{formula_text}
 use Rattle.csl_syntax.specs.Tree.{Tree}
 use Rattle.model_core.specs.Model.{LabelledChain}
 use Rattle.report.specs.Answer.{AnswerLists, ShownLists}
 use Rattle.nested_verdict.specs.UnwatchedAnswer.{unwatched_shown, unwatched_answer}
 use Rattle.nested_verdict.specs.FormulaAnswer.{formula_answer, first_refusal}
-use Rattle.session.specs.LineReply.{LineReply, Answered, Faulty, NotBuilt, Refused, reply_unless, formula_reply, unwatched_reply, IsWatchedReply}
+use Rattle.session.specs.LineReply.{LineReply, Answered, Faulty, Refused, reply_unless, formula_reply, unwatched_reply, IsWatchedReply}
 use Rattle.nested_verdict.specs.WatchedBrackets.{bracket_of, AreTaken, AreWatchedBy, IsWatched}
 use Rattle.nested_verdict.proofs.FormulaAnswers.{formula_unwatched}
 use Rattle.report.specs.declared.answer.Printed.{Printed}
@@ -23,17 +22,15 @@ use Rattle.step_core.specs.declared.plan_error.PlanError.{PlanError}
 
 -- ---- what is computed has no such brackets
 module _ (over : LabelledChain) (options : Options) where
-  reply_unwatched : (built : Bool) (refusal : Option PlanError) (text : List ℕ) (answer : AnswerLists) → unwatched_answer answer ≡ answer
-      → unwatched_reply (if built then reply_unless refusal (Answered text answer) else NotBuilt)
-      ≡ (if built then reply_unless refusal (Answered text answer) else NotBuilt)
-  reply_unwatched false refusal text answer h = refl
-  reply_unwatched true None text answer h = ap (Answered text) h
-  reply_unwatched true (Some r) text answer h = refl
+  reply_unwatched : (refusal : Option PlanError) (text : List ℕ) (answer : AnswerLists) → unwatched_answer answer ≡ answer
+      → unwatched_reply (reply_unless refusal (Answered text answer)) ≡ reply_unless refusal (Answered text answer)
+  reply_unwatched None text answer h = ap (Answered text) h
+  reply_unwatched (Some r) text answer h = refl
 
   -- the reply that is computed is its own but for such brackets
   pub computed_unwatched : (f : Tree) → unwatched_reply (formula_reply over options f) ≡ formula_reply over options f
   computed_unwatched f =
-      reply_unwatched (has_no_reward f) (first_refusal over options f) (formula_text over.names f) (formula_answer over options f)
+      reply_unwatched (first_refusal over options f) (formula_text over.names f) (formula_answer over options f)
       (formula_unwatched over options f)
 
 -- ---- a bracket as often as it is asked for
@@ -78,7 +75,6 @@ filled_answer options answer = record { verdicts = answer.verdicts; shown = opti
 abbrev pub filled_reply : Options → LineReply → LineReply
 filled_reply options (Answered text answer) = Answered text (filled_answer options answer)
 filled_reply options (Faulty fault) = Faulty fault
-filled_reply options NotBuilt = NotBuilt
 filled_reply options (Refused refusal) = Refused refusal
 
 shown_unwatched : (options : Options) (shown : Option ShownLists)
@@ -91,7 +87,6 @@ pub filled_unwatched : (options : Options) (reply : LineReply) → unwatched_rep
 filled_unwatched options (Answered text answer) =
     ap (λ (s : Option ShownLists). Answered text (record { verdicts = answer.verdicts; shown = s })) (shown_unwatched options answer.shown)
 filled_unwatched options (Faulty fault) = refl
-filled_unwatched options NotBuilt = refl
 filled_unwatched options (Refused refusal) = refl
 
 some_printed : (a b : Printed) → Some a ≡ Some b → a ≡ b
@@ -135,7 +130,6 @@ filled_shown_so options verdicts (Some shown) = λ x e.
 pub filled_watched : (options : Options) (reply : LineReply) → IsWatchedReply options (filled_reply options reply)
 filled_watched options (Answered text answer) = filled_shown_so options answer.verdicts answer.shown
 filled_watched options (Faulty fault) = tt
-filled_watched options NotBuilt = tt
 filled_watched options (Refused refusal) = tt
 
 -- ---- where no bracket is asked for
@@ -159,5 +153,4 @@ reply_whole options none (Answered text answer) h =
     ap (λ (s : Option ShownLists). Answered text (record { verdicts = answer.verdicts; shown = s }))
     (shown_whole options none answer.shown h)
 reply_whole options none (Faulty fault) h = refl
-reply_whole options none NotBuilt h = refl
 reply_whole options none (Refused refusal) h = refl

@@ -248,7 +248,7 @@ are_named other said =
 
 -- ---- the line that is answered
 abbrev over : LabelledChain
-over = files_chain tra lab
+over = files_chain tra lab None
 
 abbrev first_line : List ℕ
 first_line = codes "P{>=0.5}[X a]"

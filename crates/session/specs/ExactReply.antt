@@ -1,10 +1,9 @@
 -- When the reply to a line is exact: what a reader may rely on, whatever was computed.
-use Rattle.std.specs.Prelude.{◌≡◌, ℕ, IsTrue, not, if◌then◌else◌, List, Option, Some}
+use Rattle.std.specs.Prelude.{◌≡◌, ℕ, if◌then◌else◌, List, Option, Some}
 use Rattle.std.specs.Io.KnownBytes.{Appends}
 use Rattle.std.specs.List.{AllZip}
 use Rattle.command_words.specs.Command.{Spoken}
 use Rattle.command_words.specs.declared.command.Options.{Options}
-use Rattle.csl_semantics.specs.Truth.{has_no_reward}
 use Rattle.csl_syntax.specs.CanonicalText.{formula_text}
 use Rattle.csl_syntax.specs.FormulaFault.{FormulaFaultAt}
 use Rattle.csl_syntax.specs.FormulaText.{FormulaSays}
@@ -16,7 +15,7 @@ use Rattle.report.specs.RefusalText.{refusal_line}
 use Rattle.nested_verdict.specs.ExactAnswer.{IsExactAnswer}
 use Rattle.nested_verdict.specs.FormulaAnswer.{first_refusal}
 use Rattle.session.specs.FormulaLines.{formula_lines}
-use Rattle.session.specs.LineReply.{LineReply, Answered, Faulty, NotBuilt, Refused, NumberedReply, all_answered, replies_text}
+use Rattle.session.specs.LineReply.{LineReply, Answered, Faulty, Refused, NumberedReply, all_answered, replies_text}
 use Rattle.session.specs.ModelFiles.{TakesModel, model_of}
 use Rattle.session.specs.Outcome.{TakesInput, HasLongInput, long_text}
 use Rattle.session.specs.declared.status.Status.{Status}
@@ -24,32 +23,23 @@ use Rattle.session.specs.declared.status.Status.TheVariants.{Done, Refused as Re
 use Rattle.step_core.specs.declared.plan_error.PlanError.{PlanError}
 use Rattle.text_lines.specs.Lines.{LineText}
 
--- the line stands for a formula without a bound on a reward, the text is that formula's, and the answer is exact
+-- the line stands for a formula, the text is that formula's, and the answer is exact
 pub record AnswersExactly (over : LabelledChain) (options : Options) (line text : List ℕ) (answer : AnswerLists) : Type 0 where
   pub formula : Tree
   pub says : FormulaSays line over.names formula
-  pub built : IsTrue (has_no_reward formula)
   pub is_text : text ≡ formula_text over.names formula
   pub exact : IsExactAnswer over options formula answer
 
--- the line stands for a formula that has a bound on a reward
-pub record StandsForUnbuilt (over : LabelledChain) (line : List ℕ) : Type 0 where
-  pub formula : Tree
-  pub says : FormulaSays line over.names formula
-  pub unbuilt : IsTrue (not (has_no_reward formula))
-
--- the line stands for a formula without a bound on a reward, and this is why the first of its untils that has no plan has none
+-- the line stands for a formula, and this is why the first of its untils that has no plan has none
 pub record StandsForRefused (over : LabelledChain) (options : Options) (line : List ℕ) (refusal : PlanError) : Type 0 where
   pub formula : Tree
   pub says : FormulaSays line over.names formula
-  pub built : IsTrue (has_no_reward formula)
   pub cause : first_refusal over options formula ≡ Some refusal
 
 -- the reply to the line is exact: an answer is, and a refusal has its cause
 abbrev pub IsExactReply : LabelledChain → Options → List ℕ → LineReply → Type 0
 IsExactReply over options line (Answered text answer) = AnswersExactly over options line text answer
 IsExactReply over options line (Faulty fault) = FormulaFaultAt line over.names fault.column fault.what
-IsExactReply over options line NotBuilt = StandsForUnbuilt over line
 IsExactReply over options line (Refused refusal) = StandsForRefused over options line refusal
 
 pub record IsExactTo (over : LabelledChain) (options : Options) (line : LineText) (numbered : NumberedReply) : Type 0 where

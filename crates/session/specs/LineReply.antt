@@ -1,8 +1,7 @@
 -- What is replied to a line of the formulas.
-use Rattle.std.specs.Prelude.{◌≡◌, ℕ, Bool, true, false, ◌&&◌, ◌++◌, if◌then◌else◌, List, [], ◌∷◌, map, Option, Some, None, ⊤, codes}
+use Rattle.std.specs.Prelude.{◌≡◌, ℕ, Bool, true, false, ◌&&◌, ◌++◌, List, [], ◌∷◌, map, Option, Some, None, ⊤}
 use Rattle.std.specs.List.{AllZip}
 use Rattle.command_words.specs.declared.command.Options.{Options}
-use Rattle.csl_semantics.specs.Truth.{has_no_reward}
 use Rattle.csl_syntax.specs.CanonicalText.{formula_text}
 use Rattle.csl_syntax.specs.FormulaFault.{FormulaFaultAt}
 use Rattle.csl_syntax.specs.FormulaText.{FormulaSays}
@@ -19,12 +18,10 @@ use Rattle.nested_verdict.specs.WatchedBrackets.{IsWatched}
 use Rattle.step_core.specs.declared.plan_error.PlanError.{PlanError}
 use Rattle.text_lines.specs.Lines.{LineText}
 
--- a formula's text and its answer; what is wrong with the line; that its formula has a bound on a reward, which is not built; or why the
--- formula is refused
+-- a formula's text and its answer; what is wrong with the line; or why the formula is refused
 pub data LineReply : Type 0 where
   Answered : List ℕ → AnswerLists → LineReply
   Faulty : FormulaFault → LineReply
-  NotBuilt : LineReply
   Refused : PlanError → LineReply
 
 -- a reply, with the number of its line
@@ -40,22 +37,18 @@ reply_unless None reply = reply
 -- the reply to a formula, but for the brackets of the watched state
 abbrev pub formula_reply : LabelledChain → Options → Tree → LineReply
 formula_reply over options f =
-    if has_no_reward f
-    then reply_unless (first_refusal over options f) (Answered (formula_text over.names f) (formula_answer over options f))
-    else NotBuilt
+    reply_unless (first_refusal over options f) (Answered (formula_text over.names f) (formula_answer over options f))
 
 -- the reply but for the brackets of the watched state
 abbrev pub unwatched_reply : LineReply → LineReply
 unwatched_reply (Answered text answer) = Answered text (unwatched_answer answer)
 unwatched_reply (Faulty fault) = Faulty fault
-unwatched_reply NotBuilt = NotBuilt
 unwatched_reply (Refused refusal) = Refused refusal
 
 -- the reply has the brackets of the watched state that it should
 abbrev pub IsWatchedReply : Options → LineReply → Type 0
 IsWatchedReply options (Answered text answer) = IsWatched options answer
 IsWatchedReply options (Faulty fault) = ⊤
-IsWatchedReply options NotBuilt = ⊤
 IsWatchedReply options (Refused refusal) = ⊤
 
 -- the line stands for a formula, and this is a reply to it
@@ -69,7 +62,6 @@ pub record RepliesTo (over : LabelledChain) (options : Options) (line : List ℕ
 abbrev pub IsLineReply : LabelledChain → Options → List ℕ → LineReply → Type 0
 IsLineReply over options line (Faulty fault) = FormulaFaultAt line over.names fault.column fault.what
 IsLineReply over options line (Answered text answer) = RepliesTo over options line (Answered text answer)
-IsLineReply over options line NotBuilt = RepliesTo over options line NotBuilt
 IsLineReply over options line (Refused refusal) = RepliesTo over options line (Refused refusal)
 
 -- the reply has the line's number, and is one to it
@@ -88,7 +80,6 @@ unwatched_replies replies = map (λ r. record { number = r.number; reply = unwat
 abbrev pub is_answer : LineReply → Bool
 is_answer (Answered text answer) = true
 is_answer (Faulty fault) = false
-is_answer NotBuilt = false
 is_answer (Refused refusal) = false
 
 -- no line is refused
@@ -100,7 +91,6 @@ all_answered (numbered ∷ replies) = is_answer numbered.reply && all_answered r
 abbrev pub reply_text : ℕ → LineReply → List ℕ
 reply_text number (Answered text answer) = formula_line text ++ answer_lines answer.verdicts answer.shown
 reply_text number (Faulty fault) = refusal_line (refused_text number (formula_fault_text fault))
-reply_text number NotBuilt = refusal_line (refused_text number (codes "NotBuilt"))
 reply_text number (Refused refusal) = refusal_line (refused_text number (plan_refusal_text refusal))
 
 -- the texts of the replies, one after another

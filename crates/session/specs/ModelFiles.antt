@@ -107,4 +107,4 @@ IsFileFaulty command files fault = IsFaultyAt command files fault.file fault.lin
 
 -- the labelled chain of the files
 abbrev pub model_of : {command : Spoken} {files : Option (List Pair)} → TakesModel command files → LabelledChain
-model_of model = files_chain model.tra model.lab
+model_of model = files_chain model.tra model.lab model.rew

@@ -15,7 +15,7 @@ use Rattle.model_core.specs.Files.{TraLists, LabLists, RewLists}
 use Rattle.model_core.specs.Model.{ModelLists, LabelledChain, IsBuiltOf, labelled_chain}
 use Rattle.report.specs.Answer.{answer_lists}
 use Rattle.session.specs.Command.{names_of}
-use Rattle.session.specs.LineReply.{LineReply, Answered, Faulty as FaultyLine, NotBuilt as UnbuiltLine, Refused as RefusedLine, NumberedReply, IsReplyTo, AreReplies, is_answer, all_answered, reply_text, replies_text}
+use Rattle.session.specs.LineReply.{LineReply, Answered, Faulty as FaultyLine, Refused as RefusedLine, NumberedReply, IsReplyTo, AreReplies, is_answer, all_answered, reply_text, replies_text}
 use Rattle.session.specs.ModelFiles.{TakesTra, IsTraFaulty, IsFileFaulty, TakesLab, IsLabFaulty, TakesRew, IsRewFaulty, TakesModel}
 use Rattle.session.specs.Outcome.{Outcome, Usage, Faulty, FormulasLong, Replies, TakesTooMuch, HasLongInput, outcome_text, outcome_status}
 use Rattle.report.specs.AnswerText.{IsWritable}
@@ -37,14 +37,12 @@ use Rattle.text_lines.specs.declared.fault.FileFault.{FileFault}
 abbrev pub line_reply_of : List (List ℕ) → Reply → LineReply
 line_reply_of names (reply.Answered formula answer) = Answered (formula_text names (tree_of formula)) (answer_lists answer)
 line_reply_of names (reply.Faulty fault) = FaultyLine fault
-line_reply_of names reply.NotBuilt = UnbuiltLine
 line_reply_of names (reply.Refused refusal) = RefusedLine refusal
 
 -- the lines of the reply can be written
 abbrev pub IsReplyWritable : List (List ℕ) → Reply → Type 0
 IsReplyWritable names (reply.Answered formula answer) = IsOver (length names) (tree_of formula) × IsWritable (answer_lists answer)
 IsReplyWritable names (reply.Faulty fault) = Unit {0}
-IsReplyWritable names reply.NotBuilt = Unit {0}
 IsReplyWritable names (reply.Refused refusal) = Unit {0}
 
 -- the name that is borrowed, if there is one

@@ -1,7 +1,6 @@
 //! One command of the program, from the words to the bytes.
 #![tactic(auto)]
 
-mod built;
 mod formula_lines;
 mod laws;
 mod line_reply;

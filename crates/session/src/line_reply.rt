@@ -9,7 +9,6 @@ ghost use Rattle.report.specs.RefusalText.{refusal_line, refused_text};
 ghost use Rattle.session.specs.LineReply.{IsLineReply, is_answer, reply_text};
 ghost use Rattle.session.specs.Reading.{line_reply_of, IsReplyWritable};
 
-use crate::built::has_no_reward;
 use command_words::Options;
 use csl_syntax::{Formula, FormulaFault, ParseFault, parse};
 use model_core::Model;
@@ -30,8 +29,6 @@ pub(crate) enum Reply {
     Answered(Formula, Answer),
     /// The line is no formula.
     Faulty(FormulaFault),
-    /// The formula has a bound on a reward; such formulas aren't answered today.
-    NotBuilt,
     /// An until of the formula has no plan.
     Refused(PlanError),
 }
@@ -64,9 +61,6 @@ pub(crate) fn reply_to<R: Threads + Sync, G: Gate>(
         Err(ParseFault::At(fault)) => return Ok(Reply::Faulty(fault)),
         Err(ParseFault::Memory) => return Err(AllocError),
     };
-    if !has_no_reward(&formula) {
-        return Ok(Reply::NotBuilt);
-    }
     let answer = match check(rt, alloc, model, &formula, options, gate) {
         Ok(answer) => answer,
         Err(CheckFault::Refused(refusal)) => return Ok(Reply::Refused(refusal)),
@@ -96,7 +90,6 @@ pub(crate) fn write_reply<K: Sink>(
             return write_answer(alloc, formula, labels, answer, out);
         }
         Reply::Faulty(fault) => put_formula_fault(&mut why, *fault)?,
-        Reply::NotBuilt => why.extend_from_slice(b"NotBuilt")?,
         Reply::Refused(refusal) => put_plan_refusal(&mut why, *refusal)?,
     }
     write_refused(alloc, number, &why, out)

@@ -20,6 +20,7 @@ mod nested;
 mod next;
 mod options;
 mod reach;
+mod rewards;
 mod truths;
 mod unbounded;
 mod until;

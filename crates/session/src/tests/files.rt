@@ -151,7 +151,7 @@ fn there_are_at_most_64_labels(rt: HostRuntime) -> Result<(), Fail> {
     expect(&rt, Input::ctmc(TRA, &lab, FORMULA), Status::Done, ANSWER)
 }
 
-// The file of rewards is read after the others, and nothing is asked of it yet.
+// The file of rewards is read after the others.
 #[test]
 fn a_model_with_rewards_has_three_files(rt: HostRuntime) -> Result<(), Fail> {
     let repeated = fault(Which::RewFile, 2, FileWhat::Repeated);

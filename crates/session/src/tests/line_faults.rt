@@ -1,4 +1,4 @@
-// Lines that are refused, each for its reason, and the formulas with a bound on a reward, which aren't answered yet.
+// Lines that are refused, each for its reason.
 use super::*;
 
 // Over the label `a` alone.
@@ -38,7 +38,7 @@ fn each_fault_of_a_line_is_told_with_its_column(rt: HostRuntime) -> Result<(), F
     Ok(())
 }
 
-const NOT_BUILT: &[&[u8]] = &[
+const REWARD_BOUNDS: &[&[u8]] = &[
     b"P{>=0.5}[tt U[0,~][0,2] a]",
     b"!P{>=0.5}[tt U[0,~][0,2] a]",
     b"a && P{>=0.5}[tt U[0,~][0,2] a]",
@@ -49,18 +49,18 @@ const NOT_BUILT: &[&[u8]] = &[
     b"P{>=0.5}[tt U[0,~][0,2] P{>0}[X a]]",
 ];
 
-// Wherever in the formula the bound stands.
+// Wherever in the formula the bound stands, of a model without rewards.
 #[test]
-fn formulas_with_a_bound_on_a_reward_are_not_answered_yet(rt: HostRuntime) -> Result<(), Fail> {
-    for line in NOT_BUILT {
+fn a_bound_on_the_reward_wants_rewards(rt: HostRuntime) -> Result<(), Fail> {
+    for line in REWARD_BOUNDS {
         let input = Input::ctmc(STEP, LAB, line);
-        expect(&rt, input, Status::Refused, "refused line 1 NotBuilt\n")?;
+        expect(&rt, input, Status::Refused, "refused line 1 NoRewards\n")?;
     }
     Ok(())
 }
 
-// The fault of a line comes before whether its formula is answered, and that before how long an until is, within the bound
-// or round it.
+// The fault of a line comes before what is wrong with an until, and of two untils the first one's, operands before their
+// operator.
 #[test]
 fn the_first_reason_of_a_refusal_is_told(rt: HostRuntime) -> Result<(), Fail> {
     expect(
@@ -71,7 +71,7 @@ fn the_first_reason_of_a_refusal_is_told(rt: HostRuntime) -> Result<(), Fail> {
             b"P{>=0.5}[tt U[0,~][0,2] b]\nP{>=0.5}[tt U[0,9e9] P{>0}[tt U[0,~][0,2] a]]\nP{>=0.5}[P{>0}[tt U[0,9e9] a] U[0,~][0,2] a]\nP{>=0.5}[tt U[0,9e9] a]\n",
         ),
         Status::Refused,
-        "refused line 1 column 25 UnknownLabel\nrefused line 2 NotBuilt\nrefused line 3 NotBuilt\nrefused line 4 TooLong\n",
+        "refused line 1 column 25 UnknownLabel\nrefused line 2 NoRewards\nrefused line 3 TooLong\nrefused line 4 TooLong\n",
     )
 }
 
@@ -86,7 +86,7 @@ fn refused_lines_stand_between_answered_ones(rt: HostRuntime) -> Result<(), Fail
             b"a\n\nP{>=0.5}[tt U[0,8177.1] a]\na & a\n \t\nP{>=0.5}[tt U[0,~][0,2] a]\n(a)\n",
         ),
         Status::Refused,
-        "formula a\n1 refuted\n2 satisfied\nrefused line 3 TooLong\nrefused line 4 column 3 Token\nrefused line 6 NotBuilt\nformula a\n1 refuted\n2 satisfied\n",
+        "formula a\n1 refuted\n2 satisfied\nrefused line 3 TooLong\nrefused line 4 column 3 Token\nrefused line 6 NoRewards\nformula a\n1 refuted\n2 satisfied\n",
     )
 }
 

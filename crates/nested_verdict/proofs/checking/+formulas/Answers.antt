@@ -4,7 +4,7 @@ use Rattle.csl_syntax.specs.declared.formula.Formula.{Formula}
 use Rattle.model_core.specs.Model.{labelled_chain}
 use Rattle.nested_verdict.specs.FormulaAnswer.{formula_answer}
 use Rattle.nested_verdict.proofs.FormulaAnswers.{until_answered, verdicts_counted}
-use Rattle.nested_verdict.proofs.PlanCells.{plan_sound}
+use Rattle.nested_verdict.proofs.PlanCells.{few_cells, plan_sound}
 use Rattle.nested_verdict.proofs.checking.+formulas.Goals as goal
 
 pub operator_answer-next_answer-requires : goal.operator_answer-next_answer-requires
@@ -28,6 +28,12 @@ pub operator_answer-until_answer-requires-clause-sound :
     goal.operator_answer-until_answer-requires-clause-sound
 operator_answer-until_answer-requires-clause-sound g t c κs within =
     plan_sound (labelled_chain c.args.model.now) c.args.options.now _ _ c.in-Until.bound c.in_ok-plan-in-Until.ensures.plan
+
+pub operator_answer-until_answer-requires-clause-cells :
+    goal.operator_answer-until_answer-requires-clause-cells
+operator_answer-until_answer-requires-clause-cells g t c κs within =
+    few_cells (labelled_chain c.args.model.now) c.args.options.now _ _ c.in-Until.bound c.in_ok-plan-in-Until.ensures.plan
+    c.in_ok-plan-in-Until.ensures.accepted
 
 pub operator_answer-returns-in_ok-until_answer-in-Until-clause-answer :
     goal.operator_answer-returns-in_ok-until_answer-in-Until-clause-answer

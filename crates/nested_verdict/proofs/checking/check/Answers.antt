@@ -26,7 +26,7 @@ returns-in-Next-clause-exact g c =
     (λ answer. unwatched_answer (answer_lists answer) ≡ formula_answer over options formula)
     (λ answer. IsWatched options (answer_lists answer)) (λ answer. IsExactAnswer over options formula (answer_lists answer))
     (λ answer accepted is watched.
-    formula_exact over options formula (answer_lists answer) c.requires.built c.requires.options.bits.most c.requires.state accepted is
+    formula_exact over options formula (answer_lists answer) c.requires.options.bits.most c.requires.state accepted is
     watched)
     c.operator_answer.ensures.accepted c.operator_answer.ensures.answer c.operator_answer.ensures.watched
 
@@ -39,5 +39,5 @@ returns-in_ok-verdicts-in-Tt-clause-exact g c =
     let verdicts = c.in_ok-verdicts-in-Tt.field-0.items in
     let is : verdicts_answer verdicts ≡ formula_answer over options formula =
     ap verdicts_answer c.in_ok-verdicts-in-Tt.ensures.verdicts ∙ by_verdicts (formula_answer over options formula) unshown in
-    formula_exact over options formula (verdicts_answer verdicts) c.requires.built c.requires.options.bits.most c.requires.state
+    formula_exact over options formula (verdicts_answer verdicts) c.requires.options.bits.most c.requires.state
     c.in_ok-verdicts-in-Tt.ensures.accepted is (unshown_is_watched options (verdicts_answer verdicts) verdicts refl)

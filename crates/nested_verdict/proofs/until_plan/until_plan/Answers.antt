@@ -12,3 +12,8 @@ pub unbounded_plan-requires-clause-sets : goal.unbounded_plan-requires-clause-se
 unbounded_plan-requires-clause-sets c =
     subst (AreSoundSets c.args.model.now.n) (sym c.in_ok-sets.ensures)
     (verdict_sets_sound c.args.model.now.n c.args.live.now c.args.goal.now c.requires.live c.requires.goal)
+
+pub reward_plan-requires-clause-sets : goal.reward_plan-requires-clause-sets
+reward_plan-requires-clause-sets c =
+    subst (AreSoundSets c.args.model.now.n) (sym c.in_ok-sets.ensures)
+    (verdict_sets_sound c.args.model.now.n c.args.live.now c.args.goal.now c.requires.live c.requires.goal)
