@@ -1,6 +1,6 @@
 """Printed answers against the exact level: what they say must be true of the probabilities, as fractions.
 
-Within a time these are Poisson averages; without a bound they are jump values, and the solution of the linear equations to which
+Within a bound these are Poisson averages; without one they are jump values, and the solution of the linear equations to which
 these rise. Where operators stand in others the verdicts are held against those that come of the exact probabilities of all of
 them; and where what is known of an operand leaves states open, the bracket must contain the probability for each choice of these
 states. The lines of watched brackets need no look of their own, since these lie round that of the state's line.
@@ -10,9 +10,10 @@ from fractions import Fraction
 from itertools import islice, product
 from typing import NamedTuple
 
-from answers import jumps_of, known_of, time_of
-from exact import next_probability, reached_at_all, reached_within, reaching, time_load, until_averages
+from answers import known_of
+from exact import dual, next_probability, reached_at_all, reached_within, reaching, until_averages
 from meaning import COMPARISONS, OPERATORS, Known, known_states, operands, operators_of
+from plans import bound_of, plan_of, rewards_of
 from rounded import ONE, greatest_width
 
 UNITS = 10 ** 12
@@ -43,8 +44,16 @@ def is_small(asked):
     if asked is None or asked.over.chain.states > MOST_STATES:
         return False
     found = operators_of(asked.formula)
-    timed = [part for part in found if part.kind == "until" and time_of(part) is not None]
-    return len(found) <= MOST_OPERATORS and all(jumps_of(until, asked.over) <= MOST_JUMPS for until in timed)
+    bounded = [part for part in found if part.kind == "until" and bound_of(part) is not None]
+    return len(found) <= MOST_OPERATORS and all(jumps_of(until, asked.over) <= MOST_JUMPS for until in bounded)
+
+
+def jumps_of(until, over):
+    return plan_of(bound_of(until), over).last
+
+
+def dual_of(bound, over):
+    return dual(over.chain, rewards_of(bound, over), bound[1])
 
 
 def untrue_replies(replies, printed):
@@ -89,8 +98,8 @@ def untrue_verdict(said, state, truths):
 # The meaning of a formula, by exact probabilities.
 
 def true_states(formula, over):
-    """The states where the formula surely holds, and those where it may. What is open here is where an until with a bound on
-    the time hasn't come far enough to tell."""
+    """The states where the formula surely holds, and those where it may. What is open here is where an until with a bound
+    hasn't come far enough to tell."""
     def of_operator(inner, *known):
         meets, threshold = COMPARISONS[inner.parts[0]], inner.parts[1].fraction()
         found = [{meets(end, threshold) for end in ends} for ends in zip(*probabilities(inner, over, *known))]
@@ -104,11 +113,11 @@ def probabilities(operator, over, *known):
         goal, = known
         return [[next_probability(row, states) for row in over.chain.rows] for states in goal]
     (live_must, live_may), (goal_must, goal_may) = known
-    time = time_of(operator)
-    if time is None:
+    bound = bound_of(operator)
+    if bound is None:
         return reached_at_all(over.chain, live_must, goal_must), reached_at_all(over.chain, live_may, goal_may)
-    last, load = 2 * jumps_of(operator, over), time_load(over.chain, time)
-    (least, _), (most, missing) = (until_averages(over.chain, *sets, load, [last])[last]
+    last, (chain, load) = 2 * jumps_of(operator, over), dual_of(bound, over)
+    (least, _), (most, missing) = (until_averages(chain, *sets, load, [last])[last]
                                    for sets in ((live_must, goal_must), (live_may, goal_may)))
     return least, [value + missing for value in most]
 
@@ -166,10 +175,11 @@ def members_of(asked, sets):
     chain = asked.over.chain
     if not asked.is_until():
         return [Members([next_probability(row, *sets)], Fraction(0), Fraction(0)) for row in chain.rows]
-    time, last = time_of(asked.formula), jumps_of(asked.formula, asked.over)
-    if time is None:
+    bound, last = bound_of(asked.formula), jumps_of(asked.formula, asked.over)
+    if bound is None:
         return members_without_bound(chain, *sets, last)
-    return members_within_time(chain, *sets, time_load(chain, time), last, asked.over.options.bits)
+    chain, load = dual_of(bound, asked.over)
+    return members_within_bound(chain, *sets, load, last, asked.over.options.bits)
 
 
 def members_without_bound(chain, live, goal, last):
@@ -190,7 +200,7 @@ def members_without_bound(chain, live, goal, last):
     return members
 
 
-def members_within_time(chain, live, goal, load, last, bits):
+def members_within_bound(chain, live, goal, load, last, bits):
     """A state's averages at the horizon and past it."""
     counts = [last, last + 1, 2 * last]
     averages = until_averages(chain, live, goal, load, counts)

@@ -2,24 +2,19 @@
 from typing import NamedTuple, Optional
 
 from command import Options
-from exact import exit_rate, horizon, rate_into, time_load
+from exact import exit_rate, rate_into
 from meaning import COMPARISONS, OPERATORS, Known, known_states, operands
-from model_files import Chain, Labels
+from model_files import Chain, Labels, Rewards
+from plans import bound_of, plan_of
 from rounded import ONE, until_words
-
-MOST_JUMPS = 16_384
-MOST_WORDS = 2 ** 23
 
 
 class Over(NamedTuple):
-    """What a formula is answered over."""
+    """What a formula is answered over; without a file of rewards these are None."""
     chain: Chain
     labels: Labels
     options: Options
-
-
-class NoPlan(Exception):
-    """An until is past a limit, which is told."""
+    rewards: Optional[Rewards] = None
 
 
 class Answer(NamedTuple):
@@ -31,7 +26,7 @@ class Answer(NamedTuple):
 
 
 def answer_of(formula, over):
-    """The answer; where an until in the formula has no plan, the first one's limit is raised."""
+    """The answer; where an until in the formula has no plan, it is raised why the first such one has none."""
     if formula.kind in OPERATORS:
         return operator_answer(formula, over, *(known_of(operand, over) for operand in operands(formula)))
     return Answer(known_of(formula, over))
@@ -47,26 +42,9 @@ def operator_answer(formula, over, *known):
     """The answer to an operator, by what is known of its operands."""
     if formula.kind == "next":
         return shown_answer(formula, next_brackets(over.chain, *known))
-    last = jumps_of(formula, over)
-    words = until_words(over.chain, *known, time_of(formula), over.options)
-    return shown_answer(formula, [(*pair, ONE) for pair in words], last)
-
-
-def time_of(until):
-    bound = until.parts[3]
-    return None if bound is None else bound[1]
-
-
-def jumps_of(until, over):
-    """The number of jumps that an until looks at, if it isn't refused."""
-    # Without a bound it is the number of the option, which is in the range.
-    time, options = time_of(until), over.options
-    last = options.jumps if time is None else horizon(time_load(over.chain, time), options.bits)
-    if last > MOST_JUMPS:
-        raise NoPlan("TooLong")
-    if (last + 1) * over.chain.states > MOST_WORDS:
-        raise NoPlan("TooLarge")
-    return last
+    plan = plan_of(bound_of(formula), over)
+    words = until_words(plan, *known, over.options.bits)
+    return shown_answer(formula, [(*pair, ONE) for pair in words], plan.last)
 
 
 def next_brackets(chain, goal):

@@ -2,23 +2,24 @@
 from fractions import Fraction
 from typing import NamedTuple, Optional
 
-from answers import MOST_JUMPS, MOST_WORDS
 from changed_text import changed_bytes, odd_end_of_line, odd_end_of_text
 from command import RANGES, Options, options_of
 from damage import DAMAGES, two_damages
 from decimals import Decimal, decimal_of_units
-from draw_formulas import (EVERYWHERE, draw_live, draw_unbounded, draw_within, has_barred_way, has_choice, has_way, spelled_formula,
-                           unsettled_states, until_of)
-from draw_inputs import (OTHER_INPUTS, deepest_line, many_lines, nested_operators_line, next_line, one_line, plain_line,
-                         unbounded_line, unbuilt_line, until_line)
+from draw_formulas import (EVERYWHERE, draw_live, draw_unbounded, draw_within, has_barred_way, has_choice, has_way, over_of,
+                           spelled_formula, unsettled_states, until_of)
+from draw_inputs import (OTHER_INPUTS, deepest_line, earning_line, many_lines, nested_operators_line, next_line, one_line, plain_line,
+                         reward_line, unbounded_line, until_line)
 from draw_lines import COMPARISONS
-from draw_models import LINES_OF, Draft, draw_draft, draw_marks, draw_names, laid_out, limit_model
+from draw_models import (LINES_OF, Draft, divisor_model, draw_draft, draw_marks, draw_names, fast_model, fine_model, laid_out,
+                         limit_model, zero_model)
 from draw_nested import draw_joined, draw_limited, draw_nested
 from draw_words import (FILE_NAMES, NO_COMMANDS, NO_FILE_NAMES, NO_OPTIONS, OPTION_WRONGS, WORDS, draw_jumps, draw_options,
                         draw_workers, ends_of_range, words_of_command)
 from draws import Draws
 from language import Formula
-from model_files import FILE_LIMIT, MOST_STATES, Chain, FileFault, Labels, read_lab, read_tra
+from model_files import FILE_LIMIT, MOST_STATES, Chain, FileFault, Labels, Rewards, read_lab, read_rew, read_tra
+from plans import DIVISOR_LIMIT, LOAD_LIMITS, MOST_JUMPS, MOST_WORDS, has_plan, jump_rate
 
 TWO_FILES, THREE_FILES = ("tra", "lab"), ("tra", "lab", "rew")
 ODD_NAMES = [b"-", b"M", b"two words", b"mod\xc3\xa8le", b"a-b", b"./N.tra", b"\xe2\x9c\x93", b"$M", b"~", b"*", b"ctmc", b"a\nb", b"a=b"]
@@ -38,30 +39,32 @@ class Case(NamedTuple):
 
 
 class Model(NamedTuple):
-    """A sound model: its files' texts, and what those of the chain and of the labels stand for."""
+    """A sound model: its files' texts, and what they stand for."""
     texts: dict
     chain: Chain
     labels: Labels
+    rewards: Rewards
 
 
 def spell_model(draws, draft):
     texts = {file: laid_out(draws, lines(draws, draft)) for file, lines in LINES_OF.items()}
     chain = read_tra(texts["tra"])
-    return Model(texts, chain, read_lab(texts["lab"], chain.states))
+    return Model(texts, chain, read_lab(texts["lab"], chain.states), read_rew(texts["rew"], chain.states))
 
 
-def draw_model(draws, states):
-    """A model of so many states; one in which rates that are right alone add up to too much is drawn anew."""
+def draw_model(draws, states, make_draft=draw_draft):
+    """A model of so many states; one in which rates that are right alone add up to too much, or a reward is too great beside the
+    decimals of others, is drawn anew."""
     while True:
         try:
-            return spell_model(draws, draw_draft(draws, states))
+            return spell_model(draws, make_draft(draws, states))
         except FileFault:
             continue
 
 
 def plain_case(draws, texts, formula_input, files=None, odd_names=tuple(ODD_NAMES)):
-    """The command over these files, or over either two or three of them, under names of any kind, without options."""
-    files = files or draws.one_of([TWO_FILES, THREE_FILES])
+    """The command over these files, or mostly over three of them, else over two, under names of any kind, without options."""
+    files = files or draws.mostly(THREE_FILES, TWO_FILES)
     names = [b"M." + file.encode() for file in files] if draws.chance(7, 8) else draws.some_of(odd_names, len(files))
     words = [b"ctmc" if files == TWO_FILES else b"cmrm", *names]
     return Case(words, {name: texts[file] for name, file in zip(names, files)}, formula_input)
@@ -97,27 +100,39 @@ def next_case(draws):
     return case_of(draws, model, one_line(next_line))
 
 
-def until_case(draws, states, draw_formula, given=None):
-    """The watched state is mostly one whose bracket is narrowed by jumps; that of the others is known before."""
-    model = draw_model_with(draws, states, draws.mostly(has_barred_way, has_way))
+def until_case(draws, states, draw_formula, given=None, earns=False):
+    """The watched state is mostly one whose bracket is narrowed by jumps; that of the others is known before. Where the formula
+    `earns`, mostly the rewards are such that they may be bounded."""
+    leads = draws.mostly(has_barred_way, has_way)
+    model = draw_model_with(draws, states, lambda model: leads(model) and (not earns or may_bound_reward(model)))
     given = draw_options(draws, states) if given is None else given
     formula = draw_formula(draws, model, options_of(given))
     unsettled = unsettled_states(model, formula, options_of(given))
     if b"--state" in given and unsettled:
         given = {**given, b"--state": draws.mostly(draws.one_of(unsettled), given[b"--state"])}
-    return case_of(draws, model, one_line(lambda draws, model, options: spelled_formula(draws, formula)), given=given)
+    files = THREE_FILES if earns else None
+    return case_of(draws, model, one_line(lambda draws, model, options: spelled_formula(draws, formula)), files, given)
 
 
-def small_until(draws):
-    return until_case(draws, draws.mostly(draws.between(3, 8), 1, 2), draw_within(draws.mostly(4, 1, 30)))
+def may_bound_reward(model):
+    return has_plan(("reward", Decimal(0, 0)), over_of(model, Options()))
 
 
-def wide_until(draws):
-    return until_case(draws, draws.between(7, 40), draw_within(20))
+def small_until(kind):
+    def case(draws):
+        states = draws.mostly(draws.between(3, 8), 1, 2)
+        return until_case(draws, states, draw_within(draws.mostly(4, 1, 30), kind), earns=kind == "reward")
+    return case
 
 
-def long_until(draws):
-    return until_case(draws, draws.between(1, 3), draw_within(draws.between(100, 1000)))
+def wide_until(kind):
+    return lambda draws: until_case(draws, draws.between(7, 40), draw_within(20, kind), earns=kind == "reward")
+
+
+def long_until(kind):
+    def case(draws):
+        return until_case(draws, draws.between(1, 3), draw_within(draws.between(100, 1000), kind), earns=kind == "reward")
+    return case
 
 
 def unbounded_case(draws, states):
@@ -145,8 +160,8 @@ def raced_until(draw_states, *draw_formulas):
     def case(draws):
         states = draw_states(draws)
         given = {**draw_options(draws, states), b"--workers": draw_workers(draws), b"--watch": draws.one_of([0, 3, 100, 1000])}
-        draw_formula = draws.one_of(draw_formulas or [draw_within(40), draw_unbounded])
-        return until_case(draws, states, draw_formula, {**given, b"--state": draws.between(1, states)})
+        draw_formula = draws.one_of(draw_formulas or [draw_within(40), draw_within(40, "reward"), draw_unbounded])
+        return until_case(draws, states, draw_formula, {**given, b"--state": draws.between(1, states)}, earns=True)
     return case
 
 
@@ -203,7 +218,7 @@ def has_short_name(model):
 
 
 def some_line(draws, model, options):
-    return draws.one_of([next_line, until_line, unbounded_line, nested_operators_line])(draws, model, options)
+    return draws.one_of([next_line, until_line, reward_line, unbounded_line, nested_operators_line])(draws, model, options)
 
 
 def greatest_sums(draws):
@@ -211,37 +226,94 @@ def greatest_sums(draws):
     return case_of(draws, spell_model(draws, limit_model(draws, 2 ** 63 - 1)), one_line(some_line))
 
 
-# The limits of an until, reached exactly and passed by the least bit of time.
+# Rewards that are 0, or missing.
 
-def chain_at_rate(draws, states, rate):
-    """One or two transitions, each of which is the only way out of its state and has this rate."""
+def reward_is_missing(draws):
+    return case_of(draws, draw_model(draws, draws.between(1, 6)), one_line(earning_line), TWO_FILES)
+
+
+def reward_is_zero(draws):
+    """The first state with a reward of 0 is told, whatever stands behind it."""
+    model = draw_model(draws, draws.between(1, 8), zero_model)
+    return case_of(draws, model, one_line(draws.mostly(earning_line, reward_line)), THREE_FILES)
+
+
+# The limits of rewards and of bounds on them, reached exactly and passed by the least bit.
+
+def divisor_at_limit(total):
+    """The greatest reward times the rate of the deciding state is so much, or, where it matters which of two that are left equally
+    fast is the first, mostly twice or half as much."""
+    def case(draws):
+        return case_of(draws, spell_model(draws, divisor_model(draws, total)), one_line(reward_line), THREE_FILES)
+    return case
+
+
+def greatest_load(beyond):
+    """The number of jumps that are expected is the greatest that can be told from others, which is too long, or is beyond it."""
+    def case(draws):
+        model = spell_model(draws, fast_model(draws))
+        rate = jump_rate(model.chain, model.rewards)
+        return bound_case(draws, model, Decimal(int((LOAD_LIMITS[0] - 1) // rate) + beyond, 0))
+    return case
+
+
+def finest_load(beyond):
+    """The number of jumps that are expected has nearly the finest divisor, or one that is beyond it."""
+    def case(draws):
+        while True:
+            model = spell_model(draws, fine_model(draws))
+            upper = Decimal(draws.between(10 ** 16, 10 ** 17 - 1) * 10 + draws.one_of([1, 3, 7, 9]), 18)
+            load = jump_rate(model.chain, model.rewards) * upper.fraction()
+            if (load.denominator >= LOAD_LIMITS[1]) == beyond:
+                return bound_case(draws, model, upper)
+    return case
+
+
+def bound_case(draws, model, upper):
+    def draw_line(draws, model, options):
+        return line_at_limit(draws, model, ("reward", upper))
+    return case_of(draws, model, one_line(draw_line), THREE_FILES)
+
+
+# The limits of an until, reached exactly and passed by the least bit of the bound.
+
+def chain_at_rate(draws, states, rate, reward=None):
+    """One or two transitions, each of which is the only way out of its state and has this rate. Where there is a reward it is
+    that of all states but such as are left less fast for it."""
     first, second, third = draws.some_of(range(1, states + 1), 3) if states > 2 else (1, states, 1)
     transitions = [(first, second, rate)] + ([(second, third, rate)] if first != second else [])
     names = draw_names(draws, full=True)
     marks = draw_marks(draws, min(states, 8), names) + [(third, names[:1])]
-    return spell_model(draws, Draft(states, transitions, names, marks, []))
+    rewards = {} if reward is None else {state: reward for state in range(1, states + 1)}
+    if rewards and draws.chance(1, 2):
+        rewards[second] = Decimal(7, 0)
+    return spell_model(draws, Draft(states, transitions, names, marks, draws.shuffled(rewards.items())))
 
 
 # A half of a whole number, divided by one of these rates, has at most three decimals.
 RATES = [Decimal(1, 0), Decimal(2, 0), Decimal(5, 0), Decimal(5, 1), Decimal(1, 1), Decimal(1, 3)]
+# And that times one of these rewards at most five.
+REWARDS = [Decimal(1, 0), Decimal(3, 0), Decimal(5, 1), Decimal(25, 2)]
 
 
 def until_at_horizon(draws, states, last, beyond):
-    """An until within a time whose horizon is `last`, or one more."""
-    rate = draws.one_of(RATES)
+    """An until within a time or a reward whose horizon is `last`, or one more."""
+    rate, reward, kind = draws.one_of(RATES), draws.one_of(REWARDS), draws.one_of(["time", "reward"])
 
     def draw_line(draws, model, options):
-        decimals = draws.between(3, 10)
-        units = int(Fraction(last - options.bits, 2) / rate.fraction() * 10 ** decimals) + (1 if beyond else 0)
-        return line_at_limit(draws, model, decimal_of_units(units, decimals))
+        decimals = draws.between(5, 10)
+        amount = reward.fraction() if kind == "reward" else 1
+        units = int(Fraction(last - options.bits, 2) / rate.fraction() * amount * 10 ** decimals) + (1 if beyond else 0)
+        return line_at_limit(draws, model, (kind, decimal_of_units(units, decimals)))
     given = {**draw_options(draws, states), **draws.one_of([{}, {b"--bits": draws.one_of(RANGES[b"--bits"])}])}
-    return case_of(draws, chain_at_rate(draws, states, rate), one_line(draw_line), given=given)
+    model = chain_at_rate(draws, states, rate, reward if kind == "reward" else None)
+    return case_of(draws, model, one_line(draw_line), THREE_FILES if kind == "reward" else None, given)
 
 
-def line_at_limit(draws, model, time):
+def line_at_limit(draws, model, bound):
     names = model.labels.names
     live, goal = draws.mostly(EVERYWHERE, draw_live(draws, names)), Formula("label", (draws.one_of(names),))
-    return spelled_formula(draws, until_of(draws.one_of(COMPARISONS), Decimal(draws.below(2), 0), live, time, goal))
+    return spelled_formula(draws, until_of(draws.one_of(COMPARISONS), Decimal(draws.below(2), 0), live, bound, goal))
 
 
 def longest_until(draws):
@@ -287,9 +359,9 @@ def default_jumps_at_most_words(beyond=False):
     return case
 
 
-def unbuilt_and_too_large(draws):
-    """What isn't built is told before the tables are looked at."""
-    return large_case(draws, MOST_STATES, unbuilt_line, MOST_JUMPS)
+def rewards_and_too_large(draws):
+    """What is wrong with the rewards is told before the number of words is looked at, of each operator in its turn."""
+    return large_case(draws, draws.one_of([2000, MOST_STATES]), earning_line, MOST_JUMPS)
 
 
 # Other formula inputs.
@@ -309,7 +381,8 @@ def damaged(file, damage):
         lines = {other: make(draws, draft) for other, make in LINES_OF.items()}
         lines[file] = damage(draws, draft, lines[file])
         texts = {other: laid_out(draws, lines[other]) for other in THREE_FILES}
-        drawn = plain_case(draws, texts, b"P{>0}[X %s]\n" % draft.names[0], THREE_FILES if file == "rew" else None)
+        line = draws.one_of([b"P{>0}[X %s]\n", b"P{>0}[tt U[0,~][0,1] %s]\n"]) % draft.names[0]
+        drawn = plain_case(draws, texts, line, THREE_FILES if file == "rew" else None)
         last = drawn.words[-1]
         if drawn.files.get(last) != texts[file]:
             drawn = draws.mostly(drawn, with_file(drawn, last, b"0 0\n"), without_file(drawn, last))
@@ -387,7 +460,8 @@ def missing_file(place):
 
 
 def any_answer(draws):
-    return draws.one_of([small_until, next_case, plain_formulas, wrong_words, other_input(many_lines([some_line, plain_line], 5))])(draws)
+    lines = other_input(many_lines([some_line, plain_line], 5))
+    return draws.one_of([small_until("time"), next_case, plain_formulas, wrong_words, lines])(draws)
 
 
 def input_fails(draws):
@@ -460,10 +534,21 @@ def place_of_file(draws, count):
 def answer_kinds():
     yield "formulas without operator", [plain_formulas] * 8
     yield "next", [next_case] * 20
-    yield "small until", [small_until] * 60
-    yield "wide until", [wide_until] * 5
-    yield "long until", [long_until] * 3
+    yield "small until", [small_until("time")] * 60
+    yield "wide until", [wide_until("time")] * 5
+    yield "long until", [long_until("time")] * 3
+    yield "small until within a reward", [small_until("reward")] * 60
+    yield "wide until within a reward", [wide_until("reward")] * 5
+    yield "long until within a reward", [long_until("reward")] * 3
     yield "greatest sums of rates", [greatest_sums] * 3
+    yield "reward missing", [reward_is_missing] * 8
+    yield "reward is 0", [reward_is_zero] * 8
+    yield "divisors at their limit", [divisor_at_limit(DIVISOR_LIMIT - 1)] * 6
+    yield "divisors past their limit", [divisor_at_limit(DIVISOR_LIMIT)] * 6
+    yield "greatest load", [greatest_load(beyond=False)] * 2
+    yield "load past the greatest", [greatest_load(beyond=True)] * 2
+    yield "finest load", [finest_load(beyond=False)] * 4
+    yield "load past the finest", [finest_load(beyond=True)] * 4
     yield "longest until", [longest_until] * 4
     yield "until a jump too long", [too_long_until] * 4
     yield "largest until", [until_of_most_words(most_states=True), until_of_most_words()]
@@ -477,7 +562,7 @@ def answer_kinds():
                                       default_jumps_at_most_words()]
     yield "unbounded until a jump too large", [unbounded_until_of_most_words(most_states=True, beyond=True),
                                                *[unbounded_until_of_most_words(beyond=True)] * 2, default_jumps_at_most_words(beyond=True)]
-    yield "not built and too large", [unbuilt_and_too_large]
+    yield "rewards, and too large", [rewards_and_too_large] * 2
     yield "two levels of operators", [nested_case(draw_nested(2), few_states)] * 40
     yield "three levels of operators", [nested_case(draw_nested(3), few_states)] * 20
     yield "operators joined", [nested_case(draw_joined(levels), few_states) for levels in (1, 1, 1, 2)] * 6

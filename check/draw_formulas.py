@@ -1,16 +1,17 @@
-"""Formulas over a model: with thresholds at and near the numbers that decide them, and formulas that aren't built.
+"""Formulas over a model: with thresholds at and near the numbers that decide them, and with ones that know nothing of it.
 
-A model is anything that has a chain and labels.
+A model is anything that has a chain, labels and rewards.
 """
 import math
 from fractions import Fraction
 
-from answers import NoPlan, Over, answer_of, known_of
+from answers import Over, answer_of, known_of
 from decimals import Decimal, decimal_of_units
 from draw_lines import COMPARISONS, PLAIN_KINDS, draw_leaf, draw_tree, line_of, threshold, tokens_of
-from exact import greatest_exit_rate, next_probability, reaching
+from exact import next_probability, reaching
 from language import Formula
 from meaning import known_states
+from plans import NoPlan, jump_rate, plan_of, rewards_of
 from rounded import ONE, until_words
 
 FINEST = 10 ** 18
@@ -59,25 +60,34 @@ def has_choice(model):
     return any(0 < probability < 1 for _, probability in next_probabilities(model, labels))
 
 
-# Untils within a time, and without a bound where in place of the time there is None.
+# Untils within a time or a reward, and without a bound where in place of it there is None.
 
-def draw_until(draws, model, time, options):
+def over_of(model, options):
+    return Over(model.chain, model.labels, options, model.rewards)
+
+
+def draw_until(draws, model, bound, options):
     live, goal = draw_way(draws, model)
-    return until_over(draws, Over(model.chain, model.labels, options), live, time, goal)
+    return until_over(draws, over_of(model, options), live, bound, goal)
 
 
-def until_over(draws, over, live, time, goal):
+def until_over(draws, over, live, bound, goal):
     """An until, mostly with its threshold in a state's bracket or beside one of its ends."""
-    words = until_words(over.chain, known_of(live, over), known_of(goal, over), time, over.options)
+    try:
+        words = until_words(plan_of(bound, over), known_of(live, over), known_of(goal, over), over.options.bits)
+    except NoPlan:
+        return until_of(draws.one_of(COMPARISONS), threshold_of(any_units(draws)), live, bound, goal)
     wide = [pair for pair in words if pair[0] < pair[1]]
     words = draws.mostly([pair for pair in words if 0 < pair[0] < ONE], wide, words) or wide or words
     units = draws.one_of([at_last_bit, inside, inside, beside_printed, any_units])(draws, words)
-    return until_of(draws.one_of(COMPARISONS), threshold_of(units), live, time, goal)
+    return until_of(draws.one_of(COMPARISONS), threshold_of(units), live, bound, goal)
 
 
-def draw_within(greatest_load):
-    """Draws an until within a time in which at most so many jumps are expected."""
-    return lambda draws, model, options: draw_until(draws, model, draw_time(draws, model.chain, greatest_load), options)
+def draw_within(greatest_load, kind="time"):
+    """Draws an until within a time, or a reward, in which at most so many jumps are expected."""
+    def draw(draws, model, options):
+        return draw_until(draws, model, draw_bound(draws, over_of(model, options), kind, greatest_load), options)
+    return draw
 
 
 def draw_unbounded(draws, model, options):
@@ -87,7 +97,7 @@ def draw_unbounded(draws, model, options):
 def unsettled_states(model, formula, options):
     """The states, from 1, of which an until's two words differ."""
     try:
-        answer = answer_of(formula, Over(model.chain, model.labels, options))
+        answer = answer_of(formula, over_of(model, options))
     except NoPlan:
         return []
     if answer.horizon is None:
@@ -95,8 +105,8 @@ def unsettled_states(model, formula, options):
     return [state for state, (lower, upper, _) in enumerate(answer.brackets, 1) if lower < upper]
 
 
-def until_of(comparison, limit, live, time, goal):
-    return Formula("until", (comparison, limit, live, None if time is None else ("time", time), goal))
+def until_of(comparison, limit, live, bound, goal):
+    return Formula("until", (comparison, limit, live, bound, goal))
 
 
 def draw_way(draws, model):
@@ -140,7 +150,7 @@ def is_barred(chain, live, goal):
     return bool(barred) and not barred.isdisjoint(reaching(chain, frozenset(range(chain.states)), goal))
 
 
-# Thresholds and times.
+# Thresholds and bounds.
 
 def threshold_of(units):
     """The nearest threshold to so many units of 10^-18."""
@@ -178,62 +188,74 @@ def beside_printed(draws, words):
     return beside(draws, Fraction(draws.one_of([math.floor(lower), math.ceil(upper)]), UNITS))
 
 
-def draw_time(draws, chain, greatest_load):
-    """A time for which the load is at most so great, often a whole or a half number, or just below one."""
+def draw_bound(draws, over, kind, greatest_load):
+    """A bound of this kind, for which the load is at most so great."""
+    try:
+        rate = jump_rate(over.chain, rewards_of((kind,), over))
+    except NoPlan:
+        rate = 0
+    return kind, draw_upper(draws, rate, greatest_load)
+
+
+def draw_upper(draws, rate, greatest_load):
+    """A number for which at this rate the load is at most so great, often a whole or a half number, or just below one."""
     if draws.chance(1, 16):
         return Decimal(0, 0)
-    rate = Fraction(greatest_exit_rate(chain), 10 ** chain.scale)
-    # Below 2^-50 a load is 0 in its own units, and beside 10^-18 the time has few digits left.
+    # Below 2^-50 a load is 0 in its own units, and beside 10^-18 the number has few digits left.
     small = Fraction(1, 10 ** draws.one_of([draws.between(1, 15), draws.between(16, 20)]))
     load = Fraction(draws.between(1, 2 * greatest_load), 2) if draws.chance(7, 8) else small
     if rate == 0:
         return decimal_of_units(draws.between(1, 10 ** 6), draws.below(7))
-    return time_at_most(draws, load / rate)
+    return decimal_at_most(draws, load / rate)
 
 
-def time_at_most(draws, time):
-    """The time rounded down to a number of decimals with which it has at most 18 digits; or one unit less."""
+def decimal_at_most(draws, number):
+    """The number rounded down to so many decimals that it has at most 18 digits; or one unit less."""
     decimals = draws.mostly(18, draws.below(18))
-    while decimals > 0 and time * 10 ** decimals >= FINEST:
+    while decimals > 0 and number * 10 ** decimals >= FINEST:
         decimals -= 1
-    units = min(math.floor(time * 10 ** decimals), FINEST - 1)
+    units = min(math.floor(number * 10 ** decimals), FINEST - 1)
     return decimal_of_units(max(0, units - draws.mostly(0, 1)), decimals)
 
 
 # Formulas of any kind, with thresholds that know nothing of the chain.
 
 def draw_operator(draws, names):
-    """A next, or an until within a time or without a bound, of any kind."""
+    """A next, or an until within a time or a reward or without a bound, of any kind."""
     front = draws.one_of(COMPARISONS), threshold(draws)
     if draws.chance(1, 2):
         return Formula("next", (*front, draw_plain(draws, names)))
-    time = draws.one_of([Decimal(draws.below(10), 0), None])
-    return until_of(*front, draw_plain(draws, names), time, draw_plain(draws, names))
+    return until_of(*front, draw_plain(draws, names), any_bound(draws, Decimal(draws.below(10), 0)), draw_plain(draws, names))
+
+
+def any_bound(draws, upper):
+    """This number as a bound of either kind, or no bound."""
+    return draws.one_of([None, ("time", upper), ("reward", upper)])
 
 
 def too_long_until(draws, names):
     """An until past the limit of jumps, where some rate is no small one."""
     live, goal = draw_plain(draws, names), draw_plain(draws, names)
-    return until_of(draws.one_of(COMPARISONS), threshold(draws), live, Decimal(10 ** 18 - 1, draws.below(3)), goal)
+    bound = draws.one_of(["time", "reward"]), Decimal(10 ** 18 - 1, draws.below(3))
+    return until_of(draws.one_of(COMPARISONS), threshold(draws), live, bound, goal)
 
 
 def draw_around(draws, inner, other):
     """A formula in which the inner one stands below one connective or operator more, mostly beside the other one."""
     front = draws.one_of(COMPARISONS), threshold(draws)
-    time = draws.one_of([Decimal(draws.below(4), 0), None])
+    bound = any_bound(draws, Decimal(draws.below(4), 0))
     pair = draws.one_of([(inner, other), (other, inner)])
     return draws.one_of([
         Formula("not", (inner,)), Formula("and", pair), Formula("or", pair), Formula("next", (*front, inner)),
-        until_of(*front, pair[0], time, pair[1]),
+        until_of(*front, pair[0], bound, pair[1]),
     ])
 
 
-def draw_unbuilt(draws, names):
-    """A bound on the reward, often deep in a formula, beside which something may be too long. The rewards may be 0, or none may
-    be given."""
+def draw_earning(draws, names):
+    """A bound on the reward, often deep in a formula, beside which something may be too long."""
     live, goal = draw_plain(draws, names), draw_plain(draws, names)
     bound = "reward", draws.one_of([Decimal(draws.below(100), 0), threshold(draws), Decimal(10 ** 17, 0)])
-    formula = Formula("until", (draws.one_of(COMPARISONS), threshold(draws), live, bound, goal))
+    formula = until_of(draws.one_of(COMPARISONS), threshold(draws), live, bound, goal)
     for _ in range(draws.one_of([0, 1, 1, 2, 5])):
         formula = draw_around(draws, formula, draws.one_of([draw_plain, draw_operator, too_long_until])(draws, names))
     return formula

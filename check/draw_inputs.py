@@ -5,16 +5,16 @@ Each is drawn for a model and the command's options.
 from changed_text import changed_bytes
 from command import Options
 from decimals import Decimal, canonical_text
-from draw_formulas import (draw_next, draw_operator, draw_plain, draw_unbounded, draw_unbuilt, draw_within, spelled_formula,
+from draw_formulas import (draw_earning, draw_next, draw_operator, draw_plain, draw_unbounded, draw_within, spelled_formula,
                            too_long_until)
 from draw_lines import COMPARISONS, draw_leaf, draw_line, nested
 from draw_models import blank_lines
 from draw_nested import draw_joined, draw_nested, draw_some_operators
 from draw_numbers import no_number, spelled, too_big, too_fine
 from expected import INPUT_LIMIT
-from language import MOST_BYTES, MOST_NESTED, canonical_line
+from language import MOST_BYTES, MOST_NESTED, bound_text, canonical_line
 
-# Lines over the label a, many of which are of a form that isn't answered, or of none.
+# Lines over the label a, many of which are of no form.
 OTHER_FORMS = [
     b"P{>=0.5}[tt U a]", b"P{>=0.5}[tt U[0,~] a]", b"P{>=0.5}[tt U[0,~][0,1] a]", b"P{>=0.5}[tt U[0,1][0,1] a]",
     b"P{>=0.5}[tt U[1,2] a]", b"P{>=0.5}[tt U[0.0,1] a]", b"P{>=0.5}[tt U[00,1] a]", b"P{>=0.5}[tt U[0,] a]", b"P{>=0.5}[tt U[,1] a]",
@@ -51,6 +51,10 @@ def until_line(draws, model, options):
     return spelled_formula(draws, draw_within(4)(draws, model, options))
 
 
+def reward_line(draws, model, options):
+    return spelled_formula(draws, draw_within(4, "reward")(draws, model, options))
+
+
 def unbounded_line(draws, model, options):
     return spelled_formula(draws, draw_unbounded(draws, model, options))
 
@@ -67,8 +71,9 @@ def some_operators_line(draws, model, options):
     return spelled_formula(draws, draw_some_operators(draws, model.labels.names))
 
 
-def unbuilt_line(draws, model, options):
-    return spelled_formula(draws, draw_unbuilt(draws, model.labels.names))
+def earning_line(draws, model, options):
+    """With a bound on the reward somewhere, which knows nothing of the chain."""
+    return spelled_formula(draws, draw_earning(draws, model.labels.names))
 
 
 def drawn_line(draws, model, options):
@@ -86,13 +91,13 @@ def changed_line(draws, model, options):
 
 
 def number_line(draws, model, options):
-    """A threshold or a time that is no number, or beyond the limits; or a threshold above 1."""
+    """A threshold or a bound that is no number, or beyond the limits; or a threshold above 1."""
     tree = draw_operator(draws, model.labels.names)
     comparison, limit, *path = tree.parts
     word = draws.one_of([no_number, too_fine, too_big, above_one])(draws)
     if tree.kind == "until" and path[1] is not None and draws.chance(1, 2):
-        time = b"U[0,%s]" % canonical_text(path[1][1])
-        return canonical_line(tree).replace(time, b"U[0,%s]" % word, 1)
+        text = bound_text(path[1])
+        return canonical_line(tree).replace(text, text.removesuffix(canonical_text(path[1][1]) + b"]") + word + b"]", 1)
     return canonical_line(tree).replace(comparison + canonical_text(limit), comparison + word, 1)
 
 
@@ -100,8 +105,8 @@ def above_one(draws):
     return spelled(draws, draws.one_of([Decimal(2, 0), Decimal(10 ** 17 + 1, 17), Decimal(10 ** 18 - 1, 0), Decimal(101, 2)]))
 
 
-ANSWERED_LINES = [plain_line, next_line, until_line, unbounded_line, nested_operators_line]
-LINES = [*ANSWERED_LINES, some_operators_line, unbuilt_line, drawn_line, too_long_line, changed_line, number_line]
+ANSWERED_LINES = [plain_line, next_line, until_line, reward_line, unbounded_line, nested_operators_line]
+LINES = [*ANSWERED_LINES, some_operators_line, earning_line, drawn_line, too_long_line, changed_line, number_line]
 
 
 # Lines at the limit of their length.
@@ -141,7 +146,7 @@ def deepest_line(draws, model, options):
 
 
 def any_line_filled(draws, model, size):
-    return filled(draws, draws.one_of([*ANSWERED_LINES, unbuilt_line])(draws, model, Options()), size)
+    return filled(draws, draws.one_of([*ANSWERED_LINES, earning_line])(draws, model, Options()), size)
 
 
 def nested_line(draws, model):
@@ -263,7 +268,7 @@ def other_inputs():
     groups = [OTHER_FORMS[start:start + FORMS_AN_INPUT] for start in range(0, len(OTHER_FORMS), FORMS_AN_INPUT)]
     fills = [filled_behind, filled_before, filled_behind_quit, filled_with_thousands]
     long_lines = [any_line_filled, long_number_line, long_chain]
-    yield "not built", [many_lines([unbuilt_line], 6)] * 4
+    yield "bounds on the reward", [many_lines([earning_line], 6)] * 4
     yield "fault", [many_lines([drawn_line, number_line], 8)] * 12
     yield "lines of all kinds", [many_lines(LINES, 12)] * 40
     yield "other forms", [other_forms(forms) for forms in groups]

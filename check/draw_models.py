@@ -1,8 +1,9 @@
 """Sound models, drawn, and their files as lines of words; how lines of words are laid out as a text."""
+import math
 from dataclasses import dataclass
 
 from decimals import Decimal, decimal_of_units
-from draw_numbers import spelled, whole_word
+from draw_numbers import number_of_digits, spelled, whole_word
 
 NAMES = [
     b"a", b"b", b"goal", b"up", b"down", b"full", b"x1", b"_", b"__", b"_9", b"e5", b"E", b"s", b"p", b"u",
@@ -28,8 +29,8 @@ def draw_draft(draws, states, full=False):
     marks = draw_marks(draws, states, names)
     if full and not marks:
         marks = [(1, names[:1])]
-    rewards = [(state, draw_reward(draws)) for state in draws.shuffled(range(1, states + 1)) if full or draws.chance(2, 3)]
-    return Draft(states, draw_transitions(draws, states, full), names, marks, rewards)
+    transitions = draw_transitions(draws, states, full)
+    return Draft(states, transitions, names, marks, draw_rewards(draws, states, transitions, full))
 
 
 def draw_transitions(draws, states, full=False):
@@ -144,8 +145,49 @@ def draw_marks(draws, states, names):
     return draws.mostly(marks, draws.shuffled(marks))
 
 
-def draw_reward(draws):
+def draw_rewards(draws, states, transitions, full=False):
+    """Mostly a reward above 0 in each state; else any, or none for some of the states; of a full model, any in each."""
+    places = draws.shuffled(range(1, states + 1))
+    if full:
+        return [(state, any_reward(draws)) for state in places]
+    draw_all = draws.one_of([rewards_above, rewards_above, rewards_above, rewards_as_rates, some_rewards])
+    return draw_all(draws, places, transitions)
+
+
+def rewards_above(draws, places, transitions):
+    draw_above = draws.one_of([whole_above, whole_above, decimal_above, small_rate, mixed_above])
+    return [(state, draw_above(draws)) for state in places]
+
+
+def rewards_as_rates(draws, places, transitions):
+    """Such that most states are left equally fast for each unit of reward, and none much faster."""
+    units = dict.fromkeys(places, 0)
+    scale = max((rate.x for *_, rate in transitions), default=0)
+    for source, _, rate in transitions:
+        units[source] += rate.c * 10 ** (scale - rate.x)
+    least = max(1, *units.values()) // draws.between(1, 10) + 1
+    factor, decimals = draws.one_of([1, 1, 2, 5]), draws.one_of([0, scale, scale])
+    return [(state, decimal_of_units((units[state] or least) * factor + draws.mostly(0, 0, 1), decimals)) for state in places]
+
+
+def some_rewards(draws, places, transitions):
+    return [(state, any_reward(draws)) for state in places if draws.chance(2, 3)]
+
+
+def any_reward(draws):
     return draws.one_of([whole_rate, decimal_rate, small_rate, no_rate])(draws)
+
+
+def whole_above(draws):
+    return Decimal(draws.between(1, 9), 0)
+
+
+def decimal_above(draws):
+    return decimal_of_units(draws.between(1000, 9999), 3)
+
+
+def mixed_above(draws):
+    return draws.one_of([whole_above, decimal_above, small_rate, large_rate])(draws)
 
 
 def tra_lines(draws, draft):
@@ -198,6 +240,61 @@ def limit_model(draws, total):
     names = draw_names(draws, full=True)
     rewards = [(1, Decimal(2 ** 63 // 10, 0)), (2, Decimal(draws.between(1, 9), 1))]
     return Draft(states, draws.shuffled(transitions), names, draw_marks(draws, states, names), draws.shuffled(rewards))
+
+
+def zero_model(draws, states):
+    """A model with a reward of 0 in some states, where a line says so or none does."""
+    draft = draw_draft(draws, states)
+    zeros = draws.some_of(range(1, states + 1), draws.between(1, states))
+    rewards = [(state, no_rate(draws) if state in zeros else whole_above(draws)) for state in range(1, states + 1)]
+    draft.rewards = draws.shuffled([reward for reward in rewards if reward[0] not in zeros or draws.chance(1, 2)])
+    return draft
+
+
+# The prime factors of 2^63 - 1.
+LIMIT_FACTORS = [7, 7, 73, 127, 337, 92_737, 649_657]
+
+
+def divisor_model(draws, total):
+    """A model in which the greatest reward times the rate out of the deciding state is `total`, 2^63 or one less; another state
+    is often left at twice that rate, and as fast for each unit of reward."""
+    while True:
+        factors = [2] * 63 if total % 2 == 0 else LIMIT_FACTORS
+        rate = math.prod(draws.some_of(factors, draws.between(1, len(factors))))
+        great = total // rate
+        if 10 <= rate < 10 ** 17 and 10 <= great < 10 ** 18:
+            break
+    states = draws.between(3, 6)
+    fast, double, much, *others = draws.shuffled(range(1, states + 1))
+    decimals = draws.mostly(0, draws.between(1, 18))
+    rates, rewards = {fast: rate}, {fast: 1, double: draws.mostly(2, 4), much: great, **dict.fromkeys(others, great - 1)}
+    if draws.chance(5, 6):
+        rates[double] = 2 * rate
+    transitions = [(source, draws.between(1, states), decimal_of_units(units, decimals)) for source, units in rates.items()]
+    names = draw_names(draws, full=True)
+    earned = [(state, Decimal(reward, 0)) for state, reward in rewards.items()]
+    return Draft(states, draws.shuffled(transitions), names, draw_marks(draws, states, names), draws.shuffled(earned))
+
+
+def fast_model(draws):
+    """A model with so many jumps for each unit of reward that a bound of at most 18 digits can be beyond what a load may be."""
+    return model_of_one_rate(draws, Decimal(number_of_digits(draws, 18), 0), Decimal(1, draws.between(4, 18)))
+
+
+def fine_model(draws):
+    """A model with so fine a rate and such a reward that with a fine bound the load is near the finest that there may be."""
+    rate = draws.one_of([number_of_digits(draws, draws.between(1, 16)), draws.one_of([1, 3, 7])])
+    return model_of_one_rate(draws, decimal_of_units(rate, 18), Decimal(draws.between(80, 90), 0))
+
+
+def model_of_one_rate(draws, rate, reward):
+    """The rate is that of each transition, of which there is at most one out of a state, and the reward that of each state."""
+    states = draws.between(2, 4)
+    sources = draws.some_of(range(1, states + 1), draws.between(1, states))
+    transitions = [(source, source % states + 1, rate) for source in sources]
+    names = draw_names(draws, full=True)
+    rewards = [(state, reward) for state in range(1, states + 1)]
+    return Draft(states, transitions, names, draw_marks(draws, states, names), draws.shuffled(rewards))
 
 
 def laid_out(draws, lines):

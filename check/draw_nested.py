@@ -1,29 +1,30 @@
 """Formulas with operators in one another over a model, such that what an inner one leaves open matters to the outer one."""
 from fractions import Fraction
 
-from answers import Over, known_of, next_brackets
+from answers import known_of, next_brackets
 from decimals import Decimal
-from draw_formulas import (EVERYWHERE, any_units, beside, draw_around, draw_next, draw_operator, draw_plain, draw_time, draw_until,
-                           threshold_of, until_of, until_over)
+from draw_formulas import (EVERYWHERE, any_bound, any_units, beside, draw_around, draw_bound, draw_next, draw_operator, draw_plain,
+                           draw_until, over_of, threshold_of, until_of, until_over)
 from draw_lines import COMPARISONS, threshold
 from language import Formula
+from plans import has_plan
 
 # An operand is drawn so many times, until it leaves some state open.
 TRIES = 4
 GREATEST_LOAD = 4
-# A time for which an until is too long over all but the slowest chains.
-LONG_TIME = Decimal(10 ** 17, 0)
+# A bound with which an until is too long over all but the slowest chains.
+LONG = Decimal(10 ** 17, 0)
 
 
 def draw_nested(levels):
     """Draws a probability operator in which others stand, so many in one another."""
-    return lambda draws, model, options: operator_of(draws, Over(model.chain, model.labels, options), levels)
+    return lambda draws, model, options: operator_of(draws, over_of(model, options), levels)
 
 
 def draw_joined(levels):
     """Draws a formula that has its operators, so many in one another, below `!`, `&&` or `||`."""
     def draw(draws, model, options):
-        over = Over(model.chain, model.labels, options)
+        over = over_of(model, options)
         return joined(draws, over, draw_operand(draws, over, levels))
     return draw
 
@@ -32,18 +33,21 @@ def operator_of(draws, over, levels):
     if levels == 1:
         if draws.chance(1, 4):
             return draw_next(draws, over)
-        return draw_until(draws, over, draw_bound(draws, over), over.options)
+        return draw_until(draws, over, short_bound(draws, over), over.options)
     operand = draw_operand(draws, over, levels - 1)
     if draws.chance(1, 4):
         return next_over(draws, over, operand)
     other = draw_plain(draws, over.labels.names) if draws.chance(3, 4) else draw_operand(draws, over, 1)
     live, goal = draws.one_of([(operand, other), (other, operand), (EVERYWHERE, operand), (Formula("not", (other,)), operand)])
-    return until_over(draws, over, live, draw_bound(draws, over), goal)
+    return until_over(draws, over, live, short_bound(draws, over), goal)
 
 
-def draw_bound(draws, over):
-    """A short time, or none."""
-    return None if draws.chance(1, 3) else draw_time(draws, over.chain, GREATEST_LOAD)
+def short_bound(draws, over):
+    """A short time, a small reward where it can be a bound, or no bound."""
+    if draws.chance(1, 3):
+        return None
+    bound = draw_bound(draws, over, draws.one_of(["time", "reward"]), GREATEST_LOAD)
+    return bound if has_plan(bound, over) else None
 
 
 def draw_operand(draws, over, levels):
@@ -83,8 +87,8 @@ def draw_limited(draws, names, levels):
         return draw_plain(draws, names)
     first, second = (draw_limited(draws, names, levels - draws.between(1, 2)) for _ in range(2))
     front = draws.one_of(COMPARISONS), threshold(draws)
-    time = draws.one_of([Decimal(1, 0), LONG_TIME, None])
-    return draws.mostly(until_of(*front, first, time, second), Formula("and", (first, second)), Formula("or", (first, second)),
+    bound = any_bound(draws, draws.one_of([Decimal(1, 0), LONG]))
+    return draws.mostly(until_of(*front, first, bound, second), Formula("and", (first, second)), Formula("or", (first, second)),
                         Formula("not", (first,)), Formula("next", (*front, first)))
 
 

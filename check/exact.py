@@ -23,14 +23,18 @@ def next_probability(row, goal):
     return Fraction(rate_into(row, goal), max(1, exit_rate(row)))
 
 
-def time_load(chain, time):
-    """The number of jumps that are expected within the time: 0 where all rates are 0."""
-    return Fraction(greatest_exit_rate(chain), 10 ** chain.scale) * time.fraction()
+def dual(chain, rewards, upper):
+    """The chain whose clock is what is earned, and the number of jumps that are expected in it up to this bound: 0 where all
+    rates are 0.
 
-
-def horizon(load, bits):
-    """The number of jumps past which at most 2^-bits is left."""
-    return math.ceil(2 * load) + bits
+    It moves from s to t at the rate r(s,t) / reward(s), by the duality of Baier, Haverkort, Hermanns, Katoen: On the logical
+    characterisation of performability properties (ICALP 2000). The rates are whole numbers here, of one common unit.
+    """
+    common = math.lcm(*rewards.amounts)
+    rows = [[(target, rate * (common // amount)) for target, rate in row] for row, amount in zip(chain.rows, rewards.amounts)]
+    moved = chain._replace(rows=rows)
+    unit = Fraction(10 ** rewards.scale, 10 ** chain.scale * common)
+    return moved, greatest_exit_rate(moved) * unit * upper.fraction()
 
 
 def uniformised(chain):

@@ -1,12 +1,13 @@
 """What the program must print and end with, from the words, the files and the formula input alone."""
 from typing import NamedTuple, Optional
 
-from answers import NoPlan, Over, answer_of
+from answers import Over, answer_of
 from command import NoCommand, read_command
 from decimals import twelve_decimals
 from language import Formula, LineFault, canonical_line, read_line
-from meaning import OPERATORS, has_operator, is_built, is_nested
+from meaning import OPERATORS, has_operator, is_nested
 from model_files import FileFault, lines_of, read_lab, read_rew, read_tra, words_of
+from plans import NoPlan, bound_of
 from rounded import divide_up
 
 INPUT_LIMIT = 2 ** 20
@@ -29,10 +30,11 @@ KINDS = [
     *(f"refused {file} {what}" for file, faults in FILE_FAULTS.items() for what in faults),
     *(f"missing {file}" for file in FILE_FAULTS), "input failed", "output failed",
 ]
-OPERATOR_ANSWERS = ["next", "until within a time", "until without a bound"]
+OPERATOR_ANSWERS = ["next", "until within a time", "until within a reward", "until without a bound"]
 NESTED = ", over operators"
 ANSWERS = ["without operator", *OPERATOR_ANSWERS, *(kind + NESTED for kind in OPERATOR_ANSWERS), "operators joined"]
-REFUSALS = ["NotBuilt", "TooLong", "TooLarge", "Length", "Token", "Number", "Expected", "UnknownLabel", "Threshold", "Depth"]
+NO_PLANS = ["NoRewards", "ZeroReward", "RewardRange", "BoundRange", "TooLong", "TooLarge"]
+REFUSALS = [*NO_PLANS, "Length", "Token", "Number", "Expected", "UnknownLabel", "Threshold", "Depth"]
 
 
 class Asked(NamedTuple):
@@ -72,7 +74,7 @@ def outcome_of(words, files, formula_input):
     """The outcome. `files` maps names to bytes, or to None where no bytes can be read; so is the formula input."""
     try:
         command = read_command(words)
-        chain, labels = read_model(command, files)
+        model = read_model(command, files)
     except NoCommand:
         return Outcome("usage", 2, USAGE)
     except FileMissing as missing:
@@ -84,11 +86,11 @@ def outcome_of(words, files, formula_input):
         return Outcome("input failed", 4, b"")
     if len(formula_input) > INPUT_LIMIT:
         return Outcome("refused FormulasLong", 1, b"refused FormulasLong\n", True)
-    return outcome_of_replies(tuple(replies_to(formula_input, chain, labels, command.options)))
+    return outcome_of_replies(tuple(replies_to(formula_input, model)))
 
 
 def read_model(command, files):
-    """The chain and the labels; the rewards, which no formula that is answered asks for, are read and checked all the same."""
+    """What the files and the options give for formulas to be answered over."""
     readers = {"tra": read_tra, "lab": read_lab, "rew": read_rew}
     found = {}
     for file, name in command.names.items():
@@ -102,7 +104,7 @@ def read_model(command, files):
             raise FileRefused(file, fault) from None
         if command.options.state > found["tra"].states:
             raise FileRefused(file, FileFault(0, "WatchState"))
-    return found["tra"], found["lab"]
+    return Over(found["tra"], found["lab"], command.options, found.get("rew"))
 
 
 def outcome_of_replies(replies):
@@ -112,34 +114,30 @@ def outcome_of_replies(replies):
     return Outcome("some refused", 1, text, True, replies)
 
 
-def replies_to(formula_input, chain, labels, options):
+def replies_to(formula_input, over):
     """A reply to each line that isn't blank, up to one whose only word is `quit`."""
     for number, line in enumerate(lines_of(formula_input), 1):
         words = words_of(line)
         if words == [b"quit"]:
             return
         if words:
-            yield reply_to(number, line, chain, labels, options)
+            yield reply_to(number, line, over)
 
 
-def reply_to(number, line, chain, labels, options):
+def reply_to(number, line, over):
     try:
-        formula = read_line(line, labels.names)
+        formula = read_line(line, over.labels.names)
+        answer = answer_of(formula, over)
     except LineFault as fault:
         return refusal(number, fault.what, b"column %d " % fault.column)
-    if not is_built(formula):
-        return refusal(number, "NotBuilt")
-    over = Over(chain, labels, options)
-    try:
-        answer = answer_of(formula, over)
     except NoPlan as refused:
-        return refusal(number, *refused.args)
+        return refusal(number, refused.what, after=b"" if refused.state is None else b" state %d" % (refused.state + 1))
     text = b"formula %s\n" % canonical_line(formula) + b"".join(answer_lines(answer, over))
     return Reply(kind_of(formula), text, Asked(formula, over) if has_operator(formula) else None)
 
 
-def refusal(number, what, place=b""):
-    return Reply(what, b"refused line %d %s%s\n" % (number, place, what.encode()))
+def refusal(number, what, before=b"", after=b""):
+    return Reply(what, b"refused line %d %s%s%s\n" % (number, before, what.encode(), after))
 
 
 def kind_of(formula):
@@ -148,7 +146,8 @@ def kind_of(formula):
         return "operators joined" if has_operator(formula) else "without operator"
     kind = formula.kind
     if kind == "until":
-        kind += " within a time" if formula.parts[3] else " without a bound"
+        bound = bound_of(formula)
+        kind += " without a bound" if bound is None else f" within a {bound[0]}"
     return kind + NESTED if is_nested(formula) else kind
 
 

@@ -1,4 +1,4 @@
-"""What formulas ask for: which of them are answered, and what is known of the states that satisfy one.
+"""What formulas ask for: which operators stand in them, and what is known of the states that satisfy one.
 
 Verdicts have three values. At each state a formula is satisfied, refuted, or neither, which here is kept as two sets of states:
 those that must satisfy it, and those that may.
@@ -65,18 +65,6 @@ def has_operator(formula):
 def is_nested(formula):
     """Whether an operator stands in an operand."""
     return any(map(has_operator, operands(formula)))
-
-
-def is_built(formula):
-    """Whether formulas of this form are answered."""
-    return not any(map(bounds_reward, parts_of(formula)))
-
-
-def bounds_reward(formula):
-    if formula.kind != "until":
-        return False
-    bound = formula.parts[3]
-    return bound is not None and bound[0] == "reward"
 
 
 def known_states(formula, states, labels, of_operator=None):

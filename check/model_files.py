@@ -33,6 +33,12 @@ class Chain(NamedTuple):
     rows: tuple
 
 
+class Rewards(NamedTuple):
+    """What is earned in each state, from 0, for one of time, in units of 10^-scale."""
+    scale: int
+    amounts: tuple
+
+
 class Labels(NamedTuple):
     """The declared names in their order, and for each name the states that have it."""
     names: tuple
@@ -207,7 +213,7 @@ def read_label_line(line, words, states, declared):
 
 
 def read_rew(text, states):
-    """Each state's reward, in units of the greatest number of decimals."""
+    """The rewards in units of the greatest number of decimals; a state without a line has reward 0."""
     check_size(text)
     rewards = {}
     for line, words in Rows(text).rest():
@@ -219,7 +225,7 @@ def read_rew(text, states):
     for line, reward in rewards.values():
         if at_scale(reward, scale) >= SUM_LIMIT:
             raise FileFault(line, "RewardScale")
-    return [at_scale(rewards[state][1], scale) if state in rewards else 0 for state in range(states)]
+    return Rewards(scale, tuple(at_scale(rewards[state][1], scale) if state in rewards else 0 for state in range(states)))
 
 
 def read_reward_line(line, words, states):

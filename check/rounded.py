@@ -3,7 +3,8 @@ import functools
 import math
 import operator
 
-from exact import horizon, reaching, time_load, uniformised
+from exact import reaching
+from plans import jump_rows
 
 ONE = 2 ** 62
 FINE = 2 ** 50
@@ -57,24 +58,20 @@ class Mix:
         return lower, min(ONE, upper)
 
 
-def until_words(chain, live, goal, time, options):
-    """Each state's two words, round the probability of reaching the goal by live states: within the time, or at all where it
-    is None. Of both sets it is told what is known: the lower words are those of the states that must be in them, and the upper
+def until_words(plan, live, goal, bits):
+    """Each state's two words, round the probability of reaching the goal by live states: within the bound, or at all where there
+    is none. Of both sets it is told what is known: the lower words are those of the states that must be in them, and the upper
     ones those of the states that may be."""
-    if time is None:
-        return last_words(chain, live, goal, options.jumps)
-    return mixed_words(chain, live, goal, time, options.bits)
+    return last_words(plan, live, goal) if plan.load is None else mixed_words(plan, live, goal, bits)
 
 
 @functools.lru_cache(maxsize=32)
-def mixed_words(chain, live, goal, time, bits):
+def mixed_words(plan, live, goal, bits):
     """The mix of a state's words over 0 jumps up to the horizon."""
-    load = time_load(chain, time)
-    last = horizon(load, bits)
-    mix = Mix(load, last, bits)
-    words, unsettled = settled_words(chain, live, goal)
+    mix = Mix(plan.load, plan.last, bits)
+    words, unsettled = settled_words(plan.chain, live, goal)
     low_sums, high_sums = dict.fromkeys(unsettled, 0), dict.fromkeys(unsettled, 0)
-    for jumps, (low, high) in enumerate(both_layers(chain, live, goal, goal.may, last)):
+    for jumps, (low, high) in enumerate(both_layers(plan, live, goal, goal.may)):
         for state in unsettled:
             low_sums[state] += mix.low_term(jumps, low[state])
             high_sums[state] += mix.high_term(jumps, high[state])
@@ -84,10 +81,10 @@ def mixed_words(chain, live, goal, time, bits):
 
 
 @functools.lru_cache(maxsize=32)
-def last_words(chain, live, goal, last):
+def last_words(plan, live, goal):
     """A state's words after the last jump, where the upper ones are 1 before the first wherever the goal can be reached."""
-    words, unsettled = settled_words(chain, live, goal)
-    for low, high in both_layers(chain, live, goal, reaching(chain, live.may, goal.may), last):
+    words, unsettled = settled_words(plan.chain, live, goal)
+    for low, high in both_layers(plan, live, goal, reaching(plan.chain, live.may, goal.may)):
         pass
     for state in unsettled:
         words[state] = low[state], high[state]
@@ -104,21 +101,22 @@ def settled_words(chain, live, goal):
     return [(ONE, ONE) if state in goal.must else (0, 0) for state in range(chain.states)], unsettled
 
 
-def both_layers(chain, live, goal, start_high, last):
-    """For 0 to `last` jumps the lower and the upper words of all states."""
-    lower = layers(chain, live.must, goal.must, goal.must, last, operator.floordiv)
-    return zip(lower, layers(chain, live.may, goal.may, start_high, last, divide_up))
+def both_layers(plan, live, goal, start_high):
+    """For 0 jumps to the last one the lower and the upper words of all states."""
+    lower = layers(plan, live.must, goal.must, goal.must, operator.floordiv)
+    return zip(lower, layers(plan, live.may, goal.may, start_high, divide_up))
 
 
-def layers(chain, live, goal, start, last, divide):
-    """For 0 to `last` jumps the words of all states, from 1 on the start and 0 elsewhere, rounded by this division. The words of
-    the goal, and those of the states that can't reach it, stay as they are. The list is the same one each time."""
-    weights, total = uniformised(chain)
-    moving = sorted(reaching(chain, live, goal) - goal)
-    words = [ONE if state in start else 0 for state in range(chain.states)]
+def layers(plan, live, goal, start, divide):
+    """For 0 jumps to the last one the words of all states, from 1 on the start and 0 elsewhere, rounded by this division. The
+    words of the goal, and those of the states that can't reach it, stay as they are. The list is the same one each time."""
+    moving = sorted(reaching(plan.chain, live, goal) - goal)
+    rows = jump_rows(plan.chain, plan.rewards)
+    rows = [rows[state] for state in moving]
+    words = [ONE if state in start else 0 for state in range(plan.chain.states)]
     yield words
-    for _ in range(last):
-        moved = [divide(sum(share * words[target] for target, share in weights[state]), total) for state in moving]
+    for _ in range(plan.last):
+        moved = [divide(sum(share * words[target] for target, share in shares), divisor) for shares, divisor in rows]
         for state, word in zip(moving, moved):
             words[state] = word
         yield words
