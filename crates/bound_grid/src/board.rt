@@ -1,4 +1,4 @@
-ghost use Rattle.std.specs.Prelude.{◌≡◌, []};
+ghost use Rattle.std.specs.Prelude.{◌≡◌, ◌+◌, ◌*◌, ◌≤◌, [], length};
 ghost use Rattle.step_core.specs.Limits.{sizes_of};
 ghost use Rattle.step_core.specs.Places.{word_count};
 ghost use Rattle.flat_rows.specs.StateRows.{AreStateRows};
@@ -21,6 +21,7 @@ pub struct Board {
     ghost laid: { layout ≡ sizes_of plan },
     ghost keyed: { table.shared.key ≡ plan },
     ghost sized: { table.shared.table_id.words ≡ word_count (sizes_of plan) },
+    ghost few: { (plan.layers + 1) * length plan.frame.rows ≤ 8388608 },
 }
 
 /// What a thread steps on a board with. Contracts see what it knows of each word; it has no bytes.

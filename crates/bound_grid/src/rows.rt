@@ -1,6 +1,6 @@
 // What a board knows of its plan.
 
-ghost use Rattle.std.specs.Prelude.{◌≡◌, ◌<◌, length};
+ghost use Rattle.std.specs.Prelude.{◌≡◌, ◌*◌, ◌<◌, ◌≤◌, length};
 ghost use Rattle.flat_rows.specs.StateRows.{IsStateRow};
 ghost use Rattle.step_core.specs.Limits.{sizes_of};
 ghost use Rattle.step_core.specs.Places.{blocks};
@@ -28,5 +28,15 @@ impl Board {
         ensures { result ≡ blocks (sizes_of self.now.plan) }
     {
         self.layout.blocks()
+    }
+
+    /// The number of blocks of all layers from 1 to the last.
+    #[inline]
+    pub fn open_blocks(&self) -> u64
+        ensures count { result ≡ self.now.plan.layers * blocks (sizes_of self.now.plan) }
+        ensures few { result ≤ 8388608 }
+    {
+        let _ = &self.rows;
+        u64::from(self.layout.layers()) * u64::from(self.layout.blocks())
     }
 }

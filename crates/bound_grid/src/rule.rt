@@ -5,13 +5,15 @@ use std::collections::LinkedList;
 use std::marker::Model;
 use step_core::Plan;
 
-/// What a pass knows. No value of it is made.
+/// What a pass knows and has. No value of it is made.
 pub struct View {
     live: bool,
     layers: u64,
     states: u64,
     limits: LinkedList<u64>,
     notes: LinkedList<u64>,
+    tickets: LinkedList<u64>,
+    draws: u64,
 }
 
 impl Model for View {
@@ -24,10 +26,12 @@ impl Model for View {
       sizes = record { layers = v.layers; states = v.states };
       limits = v.limits;
       notes = v.notes;
+      tickets = v.tickets;
+      draws = v.draws;
     } };
 }
 
-/// The words are kept, the notes of the live passes fit them, and word 0 is 0.
+/// The words are kept, the notes and the tickets of the live passes fit them, and word 0 is 0.
 pub struct BoardRule;
 
 impl TableRule<u64, View, Plan> for BoardRule {
@@ -75,13 +79,24 @@ impl Play<u64, View> for Seals {
     ghost then = { Sealed };
 }
 
+/// A ticket is drawn: a word goes up by one.
+pub struct Draws;
+
+impl Play<u64, View> for Draws {
+    ghost use Rattle.bound_grid.specs.Steps.{Drawn};
+
+    ghost then = { Drawn };
+}
+
 /// A pass is split in two that know the same, or two passes become one that knows the better of both.
 pub struct Copies;
 
 impl Split<View> for Copies {
-    ghost left = { λ v. v };
+    ghost use Rattle.bound_grid.specs.PassView.{split_view, new_view};
 
-    ghost right = { λ v. v };
+    ghost left = { split_view };
+
+    ghost right = { new_view };
 }
 
 impl Join<View> for Copies {

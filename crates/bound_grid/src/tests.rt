@@ -1,11 +1,11 @@
 // A board driven by hand.
 
-ghost use Rattle.std.specs.Prelude.{◌≡◌, ℕ, ◌-◌, ◌<◌, ◌≤◌, IfOk, length};
+ghost use Rattle.std.specs.Prelude.{◌≡◌, ℕ, ◌+◌, ◌-◌, ◌<◌, ◌≤◌, IfOk, length};
 ghost use Rattle.step_core.specs.Limits.{sizes_of};
 ghost use Rattle.step_core.specs.Places.{blocks};
 ghost use Rattle.step_core.specs.PlanTables.{AreTablesOf, plan_low, plan_high};
 ghost use Rattle.step_core.specs.SoundPlan.{IsSoundPlan};
-ghost use Rattle.bound_grid.specs.Passes.{IsPassOf, KnowsMore, lower_note, upper_note, seal_note};
+ghost use Rattle.bound_grid.specs.Passes.{IsPassOf, KnowsMore, draws_of, lower_note, upper_note, seal_note};
 ghost use Rattle.bound_grid.specs.RestingStates.{resting_rows};
 
 use crate::board::{Board, Pass};
@@ -305,5 +305,78 @@ fn a_board_of_all_states_has_its_words_apart(rt: HostRuntime) -> Result<(), Fail
     assert_eq!(rt; board.load_upper(&mut pass, 1, 65_535), ONE);
     assert!(rt; board.sealed(&mut pass, 0, 1_023));
     assert!(rt; !board.sealed(&mut pass, 1, 1_023));
+    Ok(())
+}
+
+// Draws so often: the tickets, as digits to the base 8.
+fn draw_some(board: &Board, mut pass: Pass, times: u32) -> (Pass, u64)
+    requires pass { IsPassOf board.now pass }
+    requires draws { times ≤ draws_of pass }
+    ensures pass { IsPassOf board.now result.0 }
+    ensures draws { draws_of result.0 + times ≡ draws_of pass }
+{
+    let mut seen = 0u64;
+    for _ in 0..times {
+        let ticket = board.draw(&mut pass);
+        seen = seen.wrapping_mul(8).wrapping_add(ticket);
+    }
+    (pass, seen)
+}
+
+#[test]
+fn tickets_are_drawn_one_after_another(rt: HostRuntime) -> Result<(), Fail> {
+    let plan = four_states(rt.alloc())?;
+    let (board, mut pass) = Board::open(rt.alloc(), plan)?;
+    assert_eq!(rt; board.draw(&mut pass), 0);
+    assert_eq!(rt; board.draw(&mut pass), 1);
+    let mut other = board.split(&mut pass);
+    assert_eq!(rt; board.draw(&mut other), 2);
+    assert_eq!(rt; board.draw(&mut pass), 3);
+    board.meet(&mut pass, other);
+    assert_eq!(rt; board.draw(&mut pass), 4);
+    assert_eq!(rt; board.load_lower(&mut pass, 1, 0), 0);
+    assert!(rt; !board.sealed(&mut pass, 4, 0));
+    Ok(())
+}
+
+#[test]
+fn two_threads_draw_tickets_that_differ(rt: HostRuntime) -> Result<(), Fail> {
+    let plan = four_states(rt.alloc())?;
+    let (board, mut pass) = Board::open(rt.alloc(), plan)?;
+    let other = board.split(&mut pass);
+    let (first, second) = join(
+        &rt,
+        || draw_some(&board, pass, 3),
+        || draw_some(&board, other, 3),
+    );
+    let (mut pass, one) = first;
+    let (other, two) = second;
+    // Each digit to the base 8 is a ticket, and each thread's tickets rise.
+    let mut sets = [0u32; 2];
+    for place in 0..3u32 {
+        sets[0] |= 1 << ((one >> (3 * place)) & 7);
+        sets[1] |= 1 << ((two >> (3 * place)) & 7);
+    }
+    assert_eq!(rt; sets[0] & sets[1], 0);
+    assert_eq!(rt; sets[0] | sets[1], 63);
+    board.meet(&mut pass, other);
+    assert_eq!(rt; board.draw(&mut pass), 6);
+    Ok(())
+}
+
+#[test]
+fn a_stop_is_seen_by_other_passes(rt: HostRuntime) -> Result<(), Fail> {
+    let plan = four_states(rt.alloc())?;
+    let (board, mut pass) = Board::open(rt.alloc(), plan)?;
+    let mut other = board.split(&mut pass);
+    assert!(rt; !board.stopped(&mut pass));
+    assert!(rt; !board.stopped(&mut other));
+    board.stop(&mut other);
+    assert!(rt; board.stopped(&mut other));
+    assert!(rt; board.stopped(&mut pass));
+    board.stop(&mut pass);
+    assert!(rt; board.stopped(&mut pass));
+    assert_eq!(rt; board.draw(&mut pass), 0);
+    assert!(rt; !board.sealed(&mut pass, 4, 0));
     Ok(())
 }

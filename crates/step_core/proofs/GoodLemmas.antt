@@ -1,14 +1,16 @@
 -- The invariant of the machine by layers, states, blocks and passes.
-use Rattle.std.proofs.Common.{ℕ, ◌<◌, ◌≤◌, Bool, ◌∙◌, refl, subst, zero-le, arith}
+use Rattle.std.proofs.Common.{ℕ, ◌<◌, ◌≤◌, Bool, ◌∙◌, refl, sym, subst, zero-le, arith}
+use Rattle.std.proofs.lemmas.List.{get_or_default}
 use Rattle.std.specs.Prelude.{slice_index}
 use Rattle.step_core.specs.BoardRule.{Better, worst}
-use Rattle.step_core.specs.GoodLaws.{WordsLieBeside, FirstLayerIsDone, SealsAreSetOrNot, FirstLayerIsSealed, SealedIsDone, NotesAreNoBetter, SealNotesAreNoBetter}
-use Rattle.step_core.specs.CoreLists.{pass_at}
+use Rattle.step_core.specs.GoodLaws.{WordsLieBeside, FirstLayerIsDone, SealsAreSetOrNot, FirstLayerIsSealed, SealedIsDone, NotesAreNoBetter, SealNotesAreNoBetter, StopIsSetOrNot, StopNotesAreNoBetter, DrawsHaveRoom, TicketsAreBelow, TicketsStandOnce, TicketsAreApart}
+use Rattle.step_core.specs.CoreLists.{drawer_of, pass_at}
 use Rattle.step_core.specs.Limits.{sizes_of, limits_of}
-use Rattle.step_core.specs.Places.{lower_place, upper_place, seal_place, lower, upper, seal, block_of}
-use Rattle.step_core.proofs.CoreLemmas.{fits, note_le_one}
-use Rattle.step_core.proofs.LimitLemmas.{lower_limit, upper_limit, seal_limit}
-use Rattle.step_core.proofs.PlaceLemmas.{lower_rises, upper_falls, seal_rises, seal_of_lower, seal_of_upper}
+use Rattle.step_core.specs.Places.{lower_place, upper_place, seal_place, stop_place, lower, upper, seal, block_of}
+use Rattle.step_core.proofs.CoreLemmas.{live_in, fits, note_le_one, next, drawers, drawer_at, drawer_in}
+use Rattle.step_core.proofs.LimitLemmas.{lower_limit, upper_limit, seal_limit, stop_limit}
+use Rattle.step_core.proofs.PlaceLemmas.{lower_rises, upper_falls, seal_rises, stop_rises, seal_of_lower, seal_of_upper}
+use Rattle.step_core.proofs.TicketLemmas.{ticket_below, ticket_once, ticket_apart}
 
 pub words_lie_beside : WordsLieBeside
 words_lie_beside plan core k s good le lt =
@@ -73,3 +75,42 @@ seal_notes_are_no_better plan core pass k b good live le lt =
     let i : ℕ = seal_place (sizes_of plan) k b in
     subst (λ (c : Bool). Better c (slice_index (pass_at core pass).notes i) (slice_index core.words i)) (seal_rises (sizes_of plan) k b)
     ((fits plan core good pass live).below i)
+
+pub stop_is_set_or_not : StopIsSetOrNot
+stop_is_set_or_not plan core good =
+    let i : ℕ = stop_place (sizes_of plan) in
+    subst (λ x. slice_index core.words i ≤ x) (stop_limit plan)
+    (subst (λ (c : Bool). Better c (slice_index core.words i) (slice_index (limits_of plan) i)) (stop_rises (sizes_of plan))
+    (good.words.within i).end)
+
+pub stop_notes_are_no_better : StopNotesAreNoBetter
+stop_notes_are_no_better plan core pass good live =
+    let i : ℕ = stop_place (sizes_of plan) in
+    subst (λ (c : Bool). Better c (slice_index (pass_at core pass).notes i) (slice_index core.words i)) (stop_rises (sizes_of plan))
+    ((fits plan core good pass live).below i)
+
+pub draws_have_room : DrawsHaveRoom
+draws_have_room plan core good = good.tickets.room
+
+pub tickets_are_below : TicketsAreBelow
+tickets_are_below plan core pass good live a d lt =
+    let there = live_in core pass live in
+    let h =
+    ticket_below (next plan core good) (drawers plan core good) good.tickets pass (drawer_in plan core good pass there)
+    (drawer_of (pass_at core pass)) (drawer_at plan core good pass there) live a lt in
+    let e = get_or_default (pass_at core pass).tickets a d 0 lt in
+    omega (arith, h, e)
+
+pub tickets_stand_once : TicketsStandOnce
+tickets_stand_once plan core pass a b good live ina inb same =
+    let there = live_in core pass live in
+    ticket_once (next plan core good) (drawers plan core good) good.tickets pass (drawer_in plan core good pass there)
+    (drawer_of (pass_at core pass)) (drawer_at plan core good pass there) live a b ina inb same
+
+pub tickets_are_apart : TicketsAreApart
+tickets_are_apart plan core one two a b good ne live live' ina inb same =
+    let there = live_in core one live in
+    let there' = live_in core two live' in
+    ticket_apart (next plan core good) (drawers plan core good) good.tickets one (drawer_in plan core good one there)
+    (drawer_of (pass_at core one)) (drawer_at plan core good one there) two (drawer_in plan core good two there')
+    (λ e. ne (sym e)) (drawer_of (pass_at core two)) (drawer_at plan core good two there') live live' a b ina inb same

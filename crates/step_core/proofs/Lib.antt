@@ -11,4 +11,5 @@ pub mod PlaceLemmas
 pub mod PlanTableLemmas
 pub mod RowLemmas
 pub mod SmallModels
+pub mod TicketLemmas
 pub mod Walks

@@ -11,15 +11,16 @@ use Rattle.step_core.specs.BoardRule.{Better, worst, IsWithin, FitNotes, WordsKe
 use Rattle.step_core.specs.CoreLists.{opening}
 use Rattle.step_core.specs.Good.{IsPassOf, Good}
 use Rattle.step_core.specs.Limits.{sizes_of, table_words, limits_of, goal_words, lower_start, upper_start, seal_start, opening_words}
-use Rattle.step_core.specs.Places.{Sizes, cells, blocks, lower_place, upper_place, seal_place, word_count, falls, IsSealOf, IsOfLayerZero, lower, upper, seal, block_of}
+use Rattle.step_core.specs.Places.{Sizes, cells, blocks, lower_place, upper_place, seal_place, ticket_place, stop_place, word_count, falls, IsSealOf, IsOfLayerZero, lower, upper, seal, block_of}
 use Rattle.step_core.specs.PlanLists.{PlanLists}
 use Rattle.step_core.specs.PlanTables.{plan_low, plan_high}
 use Rattle.step_core.specs.SoundPlan.{IsSoundPlan}
 use Rattle.step_core.proofs.BetterLemmas.{better_refl}
 use Rattle.step_core.proofs.Layers.{set_layer}
 use Rattle.step_core.proofs.LimitLemmas.{row_first, row_second, row_third, length_row, table_word, table_word_at, length-limits, lower_limit_at, upper_limit_at, seal_limit_at}
-use Rattle.step_core.proofs.PlaceLemmas.{in_row, rises_low, falls_mid, rises_high, block_in}
+use Rattle.step_core.proofs.PlaceLemmas.{in_row, rises_low, falls_mid, rises_high, ticket_rises, stop_rises, block_in}
 use Rattle.step_core.proofs.RowLemmas.{high_le_one}
+use Rattle.step_core.proofs.TicketLemmas.{first_kept}
 
 -- ---- a list that goes on with one word
 start_first : (xs : List ℕ) (r x m : ℕ) → m < length xs → slice_index (xs ++ replicate r x) m ≡ slice_index xs m
@@ -35,11 +36,12 @@ start_rest xs r x m ge lt =
 length_start : (xs : List ℕ) (r x : ℕ) → length (xs ++ replicate r x) ≡ length xs + r
 length_start xs r x = let k = length-replicate {A = ℕ} r x in omega (arith, length-append xs (replicate r x), k)
 
--- ---- a word is word 0, a lower word, an upper word, a seal or none
+-- ---- a word is word 0, a lower word, an upper word, a seal, one of two more or none
 by_kind : (P : ℕ → Type 0) (l t : ℕ) → P 0 → ((m : ℕ) → m < l → P (1 + m)) → ((m : ℕ) → m < l → P (1 + (l + m)))
-    → ((m : ℕ) → m < t → P (1 + (2 * l + m))) → ((i : ℕ) → 1 + (2 * l + t) ≤ i → P i) → (i : ℕ) → P i
-by_kind P l t none lowers uppers seals past zero = none
-by_kind P l t none lowers uppers seals past (suc i) =
+    → ((m : ℕ) → m < t → P (1 + (2 * l + m))) → P (1 + (2 * l + t)) → P (1 + (2 * l + (t + 1)))
+    → ((i : ℕ) → 1 + (2 * l + (t + 2)) ≤ i → P i) → (i : ℕ) → P i
+by_kind P l t none lowers uppers seals ticket stop past zero = none
+by_kind P l t none lowers uppers seals ticket stop past (suc i) =
     elim (cases_lt i l) [
       | inl lt ↦ (let e : 1 + i ≡ suc i = omega arith in subst P e (lowers i (omega arith)))
       | inr ge ↦
@@ -48,7 +50,15 @@ by_kind P l t none lowers uppers seals past (suc i) =
             | inr ge2 ↦
                 elim (cases_lt i (2 * l + t)) [
                   | inl lt3 ↦ (let e : 1 + (2 * l + (i - 2 * l)) ≡ suc i = omega arith in subst P e (seals (i - 2 * l) (omega arith)))
-                  | inr ge3 ↦ past (suc i) (omega arith)
+                  | inr ge3 ↦
+                      elim (cases_eq i (2 * l + t)) [
+                        | inl e ↦ (let f : 1 + (2 * l + t) ≡ suc i = omega (arith, e) in subst P f ticket)
+                        | inr ne ↦
+                            elim (cases_eq i (2 * l + (t + 1))) [
+                              | inl e ↦ (let f : 1 + (2 * l + (t + 1)) ≡ suc i = omega (arith, e) in subst P f stop)
+                              | inr ne2 ↦ past (suc i) (omega (arith, ne, ne2))
+                            ]
+                      ]
                 ]
           ]
     ]
@@ -97,20 +107,45 @@ module _ (plan : PlanLists) (sound : IsSoundPlan plan) where
   length_seal : length (seal_start plan) ≡ (plan.layers + 1) * blocks z
   length_seal = omega (arith, length_start (replicate (blocks z) 1) (plan.layers * blocks z) 0, length_ones)
 
+  abbrev rest : List ℕ
+  rest = seal_start plan ++ replicate 2 0
+
+  length_rest : length rest ≡ (plan.layers + 1) * blocks z + 2
+  length_rest = omega (arith, length-append (seal_start plan) (replicate 2 0), length_seal)
+
   -- ---- the words by their place among the words of one kind
   lower_word : (m : ℕ) → m < l → slice_index words (1 + m) ≡ slice_index (lower_start plan) m
-  lower_word m h = row_first (lower_start plan) (upper_start plan) (seal_start plan) m (omega (arith, length_lower))
+  lower_word m h = row_first (lower_start plan) (upper_start plan) rest m (omega (arith, length_lower))
 
   upper_word : (m : ℕ) → m < l → slice_index words (1 + (l + m)) ≡ slice_index (upper_start plan) m
   upper_word m h =
       ap (λ (k : ℕ). slice_index words (1 + (k + m))) (sym length_lower)
-      ∙ row_second (lower_start plan) (upper_start plan) (seal_start plan) m (omega (arith, length_upper))
+      ∙ row_second (lower_start plan) (upper_start plan) rest m (omega (arith, length_upper))
 
-  seal_word : (m : ℕ) → slice_index words (1 + (2 * l + m)) ≡ slice_index (seal_start plan) m
-  seal_word m =
+  rest_word : (m : ℕ) → slice_index words (1 + (2 * l + m)) ≡ slice_index rest m
+  rest_word m =
       let e : 1 + (2 * l + m) ≡ 1 + (length (lower_start plan) + length (upper_start plan) + m) = omega
       (arith, length_lower, length_upper) in
-      ap (slice_index words) e ∙ row_third (lower_start plan) (upper_start plan) (seal_start plan) m
+      ap (slice_index words) e ∙ row_third (lower_start plan) (upper_start plan) rest m
+
+  seal_word : (m : ℕ) → m < (plan.layers + 1) * blocks z → slice_index words (1 + (2 * l + m)) ≡ slice_index (seal_start plan) m
+  seal_word m h = rest_word m ∙ get_or_append_left (seal_start plan) (replicate 2 0) 0 m (omega (arith, length_seal, h))
+
+  last_word : (m : ℕ) → m < 2 → slice_index words (1 + (2 * l + ((plan.layers + 1) * blocks z + m))) ≡ 0
+  last_word m h =
+      rest_word ((plan.layers + 1) * blocks z + m)
+      ∙ (ap (λ (k : ℕ). slice_index rest (k + m)) (sym length_seal)
+      ∙ (get_or-append-add (seal_start plan) (replicate 2 0) m 0 ∙ get_or-replicate 2 m 0 0 h))
+
+  -- no ticket is drawn
+  pub first_ticket : slice_index words (ticket_place z) ≡ 0
+  first_ticket =
+      let e : ticket_place z ≡ 1 + (2 * l + ((plan.layers + 1) * blocks z + 0)) = omega arith in
+      ap (slice_index words) e ∙ last_word 0 (omega arith)
+
+  -- nor is a stop told
+  pub first_stop : slice_index words (stop_place z) ≡ 0
+  first_stop = last_word 1 (omega arith)
 
   -- ---- layer 0 is at its limits
   first_lower : (s : ℕ) → s < n → slice_index (lower_start plan) s ≡ slice_index (table_words z (plan_low plan)) s
@@ -177,10 +212,10 @@ module _ (plan : PlanLists) (sound : IsSoundPlan plan) where
   length-opening_words = omega (
     arith,
     length_row (lower_start plan) (upper_start plan)
-        (seal_start plan),
+        rest,
     length_lower,
     length_upper,
-    length_seal,
+    length_rest,
   )
 
   all_within : (i : ℕ) → IsWithin z limits i (slice_index words i)
@@ -193,7 +228,9 @@ module _ (plan : PlanLists) (sound : IsSoundPlan plan) where
       within_fall z limits (1 + (l + m)) _ (falls_mid z (1 + (l + m)) (omega arith) (omega arith)) (omega (arith, upper_word m h, b.0))
       (omega (arith, upper_word m h, upper_limit_at plan m h, b.1)))
       (λ m h. within_rise z limits (1 + (2 * l + m)) _ (rises_high z (1 + (2 * l + m)) (omega arith))
-      (omega (arith, seal_word m, seal_limit_at plan m h, seal_le m h)))
+      (omega (arith, seal_word m h, seal_limit_at plan m h, seal_le m h)))
+      (within_rise z limits (ticket_place z) _ (ticket_rises z) (let e = first_ticket in omega (arith, e)))
+      (within_rise z limits (stop_place z) _ (stop_rises z) (let e = first_stop in omega (arith, e)))
       (λ i h. within_rise z limits i _ (rises_high z i (omega arith))
       (let e = get_or_past words i 0 (omega (arith, length-opening_words)) in omega (arith, e)))
 
@@ -220,7 +257,7 @@ module _ (plan : PlanLists) (sound : IsSoundPlan plan) where
       let m : ℕ = 0 * blocks z + b in
       let lt : m < (plan.layers + 1) * blocks z = in_row plan.layers 0 (blocks z) b zero-le h in
       let e : b ≡ m = omega arith in
-      seal_word m ∙ (subst (λ (k : ℕ). slice_index (seal_start plan) k ≡ 1) e (first_seal b h) ∙ sym (seal_limit_at plan m lt))
+      seal_word m lt ∙ (subst (λ (k : ℕ). slice_index (seal_start plan) k ≡ 1) e (first_seal b h) ∙ sym (seal_limit_at plan m lt))
 
   at_limit : (i j : ℕ) → i ≡ j → slice_index words j ≡ slice_index limits j → slice_index words i ≡ slice_index limits i
   at_limit i j e q = subst (λ (k : ℕ). slice_index words k ≡ slice_index limits k) (sym e) q
@@ -246,7 +283,7 @@ module _ (plan : PlanLists) (sound : IsSoundPlan plan) where
             let one : 1 ≤ g.layer = omega (arith, later) in
             let past : 1 * blocks z ≤ g.layer * blocks z = mul-le-mul_right (blocks z) one in
             let ge : blocks z ≤ m = omega arith in
-            let e : slice_index words i ≡ 0 = ap (slice_index words) g.is_seal ∙ (seal_word m ∙ other_seal m ge row) in
+            let e : slice_index words i ≡ 0 = ap (slice_index words) g.is_seal ∙ (seal_word m row ∙ other_seal m ge row) in
             absurd (omega (arith, e)))
       ]
 
@@ -267,4 +304,5 @@ module _ (plan : PlanLists) (sound : IsSoundPlan plan) where
     sizes = refl;
     words = opening_kept;
     passes = All-cons (IsPassOf z words) _ [] record { size = refl; fits = λ _. opening_fits } (All-nil (IsPassOf z words));
+    tickets = first_kept first_ticket;
   }

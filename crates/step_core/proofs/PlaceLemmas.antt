@@ -4,7 +4,7 @@ use Rattle.std.proofs.Math.Nat.{mul-le-mul_right, suc-mul}
 use Rattle.std.proofs.lemmas.Bool.{lt-ltb, le-ltb}
 use Rattle.std.proofs.lemmas.Nat.{div-mul-add}
 use Rattle.std.specs.Prelude.{Bool, ◌&&◌, nat_lt}
-use Rattle.step_core.specs.Places.{Sizes, cells, blocks, lower_place, upper_place, seal_place, word_count, falls, IsSealOf, block_of}
+use Rattle.step_core.specs.Places.{Sizes, cells, blocks, lower_place, upper_place, seal_place, ticket_place, stop_place, word_count, falls, IsSealOf, block_of}
 
 -- a place in rows of n
 pub in_row : (most k n s : ℕ) → k ≤ most → s < n → k * n + s < (most + 1) * n
@@ -36,6 +36,12 @@ module _ (z : Sizes) where
 
   pub seal_rises : (k b : ℕ) → falls z (seal_place z k b) ≡ false
   seal_rises k b = rises_high _ (omega arith)
+
+  pub ticket_rises : falls z (ticket_place z) ≡ false
+  ticket_rises = rises_high _ (omega arith)
+
+  pub stop_rises : falls z (stop_place z) ≡ false
+  stop_rises = rises_high _ (omega arith)
 
   pub seal_of_rises : (i j : ℕ) → IsSealOf z i j → falls z i ≡ false
   seal_of_rises i j g = let e = g.is_seal in rises_high i (omega (arith, e))
@@ -76,6 +82,39 @@ module _ (z : Sizes) where
 
   pub seal_in : (k b : ℕ) → k ≤ z.layers → b < blocks z → seal_place z k b < word_count z
   seal_in k b le lt = let h = in_row z.layers k (blocks z) b le lt in omega arith
+
+  pub ticket_in : ticket_place z < word_count z
+  ticket_in = omega arith
+
+  pub stop_in : stop_place z < word_count z
+  stop_in = omega arith
+
+  -- ---- the words behind the seals are none
+  pub seal_before : (k b : ℕ) → k ≤ z.layers → b < blocks z → seal_place z k b < ticket_place z
+  seal_before k b le lt = let h = in_row z.layers k (blocks z) b le lt in omega arith
+
+  pub ticket_is_no_seal : (j : ℕ) → IsSealOf z (ticket_place z) j → ⊥
+  ticket_is_no_seal j g =
+      let h = seal_before g.layer (block_of g.state) g.layer_in (block_in g.layer g.state g.layer_in g.state_in) in
+      let e = g.is_seal in
+      omega (arith, e, h)
+
+  pub stop_is_no_seal : (j : ℕ) → IsSealOf z (stop_place z) j → ⊥
+  stop_is_no_seal j g =
+      let h = seal_before g.layer (block_of g.state) g.layer_in (block_in g.layer g.state g.layer_in g.state_in) in
+      let e = g.is_seal in
+      omega (arith, e, h)
+
+  -- ---- no other word is the tickets' word, and none is the stop word
+  module _ (k s : ℕ) (le : k ≤ z.layers) (lt : s < z.states) where
+    pub lower_before : lower_place z k s < ticket_place z
+    lower_before = let h = in_row z.layers k z.states s le lt in omega arith
+
+    pub upper_before : upper_place z k s < ticket_place z
+    upper_before = let h = in_row z.layers k z.states s le lt in omega arith
+
+  pub ticket_before_stop : ticket_place z < stop_place z
+  ticket_before_stop = omega arith
 
   -- a seal vouches for the words of its own block alone
   pub sealed_block : (k b j : ℕ) → b < blocks z → (g : IsSealOf z (seal_place z k b) j) → (k ≡ g.layer) × (b ≡ block_of g.state)

@@ -1,19 +1,20 @@
 -- What each event does.
-use Rattle.std.specs.Prelude.{ℕ, ◌-◌, ◌*◌, min, max, List, [], ◌∷◌, ◌++◌, length, slice_index, slice_set}
-use Rattle.std.specs.Prelude.{Bool, true, false, not, ◌&&◌, ◌==◌, nat_lt, nat_le, if◌then◌else◌}
+use Rattle.std.specs.Prelude.{ℕ, ◌+◌, ◌-◌, ◌*◌, min, max, List, [], ◌∷◌, ◌++◌, length, slice_index, slice_set}
+use Rattle.std.specs.Prelude.{Bool, not, ◌&&◌, ◌==◌, nat_lt, nat_le, if◌then◌else◌}
 use Rattle.std.specs.List.{list_all, range_with_len}
 use Rattle.ctmc_semantics.specs.RoundedTables.{row_low, row_high}
 use Rattle.ctmc_semantics.specs.Sets.{holds_at}
 use Rattle.step_core.specs.BoardRule.{better_notes}
-use Rattle.step_core.specs.CoreLists.{CoreLists, pass_at, lower_at, upper_at}
+use Rattle.step_core.specs.CoreLists.{CoreLists, drawer_of, pass_with, pass_at, lower_at, upper_at, ticket_at, stop_at}
 use Rattle.step_core.specs.FrameRows.{frame_rows}
 use Rattle.step_core.specs.Limits.{sizes_of}
-use Rattle.step_core.specs.Places.{blocks, lower_place, upper_place, seal_place}
+use Rattle.step_core.specs.Places.{blocks, lower_place, upper_place, seal_place, ticket_place, stop_place}
 use Rattle.step_core.specs.PlanLists.{PlanLists}
 use Rattle.step_core.specs.PlanTables.{plan_low, plan_high}
+use Rattle.step_core.specs.Tickets.{with_ticket, split_kept, split_off, joined, ended}
 use Rattle.step_core.specs.declared.blocks.TheConstants.{BLOCK_STATES}
 use Rattle.step_core.specs.declared.event.Event.{Event}
-use Rattle.step_core.specs.declared.event.Event.TheVariants.{LoadLower, LoadUpper, Raise, Cut, SeeSeal, Seal, Split, Meet}
+use Rattle.step_core.specs.declared.event.Event.TheVariants.{LoadLower, LoadUpper, Raise, Cut, SeeSeal, Seal, Split, Meet, Draw, Stop, SeeStop}
 
 -- the row values of a plan over a layer of words
 abbrev pub plan_row_low : PlanLists → (ℕ → ℕ) → ℕ → ℕ
@@ -36,6 +37,10 @@ sees_block plan core pass k b = (pass_at core pass).live && (nat_le k plan.layer
 abbrev pub can_meet : CoreLists → ℕ → ℕ → Bool
 can_meet core kept ended = (pass_at core kept).live && ((pass_at core ended).live && not (kept == ended))
 
+-- the pass is live, and has a draw
+abbrev pub can_draw : CoreLists → ℕ → Bool
+can_draw core pass = (pass_at core pass).live && nat_lt 0 (pass_at core pass).draws
+
 -- the notes of the state equal the tables
 abbrev pub is_done : PlanLists → List ℕ → ℕ → ℕ → Bool
 is_done plan notes k s =
@@ -52,7 +57,7 @@ noted core pass i x = record {
   sizes = core.sizes;
   words = core.words;
   passes =
-      slice_set core.passes pass record { live = (pass_at core pass).live; notes = slice_set (pass_at core pass).notes i x };
+      slice_set core.passes pass (pass_with (drawer_of (pass_at core pass)) (slice_set (pass_at core pass).notes i x));
 }
 
 -- the word at a place becomes x, and the pass notes it
@@ -63,20 +68,38 @@ turned core pass i x = record {
   passes = (noted core pass i x).passes;
 }
 
--- a pass with a copy of the notes is added
-abbrev pub split : CoreLists → ℕ → CoreLists
-split core pass = record { sizes = core.sizes; words = core.words; passes = core.passes ++ pass_at core pass ∷ [] }
+-- the pass gets the next ticket, for one draw, and the ticket after it is the next one
+abbrev pub drawn : PlanLists → CoreLists → ℕ → CoreLists
+drawn plan core pass = record {
+  sizes = core.sizes;
+  words = slice_set core.words (ticket_place (sizes_of plan)) (ticket_at (sizes_of plan) core.words + 1);
+  passes =
+      slice_set core.passes pass
+      (pass_with (with_ticket (drawer_of (pass_at core pass)) (ticket_at (sizes_of plan) core.words))
+      (slice_set (pass_at core pass).notes (ticket_place (sizes_of plan)) (ticket_at (sizes_of plan) core.words + 1)));
+}
 
--- the kept pass's notes become the better of both at each place, and the other pass ends
+-- a pass with a copy of the notes is added, and gets some draws of the pass
+abbrev pub split : CoreLists → ℕ → CoreLists
+split core pass = record {
+  sizes = core.sizes;
+  words = core.words;
+  passes =
+      slice_set core.passes pass (pass_with (split_kept (drawer_of (pass_at core pass))) (pass_at core pass).notes)
+      ++ pass_with (split_off (drawer_of (pass_at core pass))) (pass_at core pass).notes ∷ [];
+}
+
+-- the kept pass's notes become the better of both at each place, it gets the tickets and the draws of the other pass, and that one ends
 abbrev pub met : PlanLists → CoreLists → ℕ → ℕ → CoreLists
-met plan core kept ended = record {
+met plan core kept other = record {
   sizes = core.sizes;
   words = core.words;
   passes =
       slice_set
       (slice_set core.passes kept
-      record { live = true; notes = better_notes (sizes_of plan) (pass_at core kept).notes (pass_at core ended).notes })
-      ended record { live = false; notes = (pass_at core ended).notes };
+      (pass_with (joined (drawer_of (pass_at core kept)) (drawer_of (pass_at core other)))
+      (better_notes (sizes_of plan) (pass_at core kept).notes (pass_at core other).notes)))
+      other (pass_with (ended (drawer_of (pass_at core other))) (pass_at core other).notes);
 }
 
 -- the machine after an event
@@ -106,3 +129,9 @@ event_gives plan core (Seal pass k b) =
 event_gives plan core (Split pass) = if (pass_at core pass).live then split core pass else core
 event_gives plan core (Meet kept ended) =
     if can_meet core kept ended then met plan core kept ended else core
+event_gives plan core (Draw pass) = if can_draw core pass then drawn plan core pass else core
+event_gives plan core (Stop pass) =
+    if (pass_at core pass).live then turned core pass (stop_place (sizes_of plan)) 1 else core
+event_gives plan core (SeeStop pass) =
+    if (pass_at core pass).live
+    then noted core pass (stop_place (sizes_of plan)) (stop_at (sizes_of plan) core.words) else core

@@ -18,6 +18,7 @@ pub mod ReachLaws
 pub mod SoundFrame
 pub mod SoundPlan
 pub mod TableLists
+pub mod Tickets
 pub mod Walk
 pub mod WeightLists
 -- what is computed

@@ -27,12 +27,20 @@ lower_place z k s = 1 + (k * z.states + s)
 abbrev pub upper_place : Sizes → ℕ → ℕ → ℕ
 upper_place z k s = 1 + (cells z + (k * z.states + s))
 
--- and a seal for each layer and block
+-- a seal for each layer and block,
 abbrev pub seal_place : Sizes → ℕ → ℕ → ℕ
 seal_place z k b = 1 + (2 * cells z + (k * blocks z + b))
 
+-- the word from which tickets are drawn,
+abbrev pub ticket_place : Sizes → ℕ
+ticket_place z = 1 + (2 * cells z + (z.layers + 1) * blocks z)
+
+-- and the word that tells whether to stop
+abbrev pub stop_place : Sizes → ℕ
+stop_place z = 1 + (2 * cells z + ((z.layers + 1) * blocks z + 1))
+
 abbrev pub word_count : Sizes → ℕ
-word_count z = 1 + (2 * cells z + (z.layers + 1) * blocks z)
+word_count z = 1 + (2 * cells z + ((z.layers + 1) * blocks z + 2))
 
 -- an upper word falls; each other word rises
 unfoldable pub falls : Sizes → ℕ → Bool

@@ -1,19 +1,20 @@
 // The events of the pure machine. Each is a function of its own, and says which machine it gives.
 
-ghost use Rattle.std.specs.Prelude.{◌≡◌, ◌+◌, ◌-◌, ◌*◌, ◌<◌, ◌≤◌, ◌&&◌, ◌==◌, IfOk, IfErr, IsTrue, length, min, slice_index, take, drop, if◌then◌else◌};
+ghost use Rattle.std.specs.Prelude.{◌≡◌, ◌+◌, ◌-◌, ◌*◌, ◌^◌, ◌<◌, ◌≤◌, ◌&&◌, ◌==◌, IfOk, IfErr, IsTrue, length, min, slice_index, take, drop, if◌then◌else◌};
 ghost use Rattle.step_core.specs.CoreLists.{pass_at, lower_at, upper_at};
-ghost use Rattle.step_core.specs.Events.{plan_row_low, plan_row_high, sees_cell, sees_block, is_done, block_done, can_meet};
+ghost use Rattle.step_core.specs.Events.{plan_row_low, plan_row_high, sees_cell, sees_block, is_done, block_done, can_meet, can_draw};
 ghost use Rattle.step_core.specs.Events.{noted, turned, split, met, event_gives};
-ghost use Rattle.step_core.specs.EventRoom.{HasRoom, IsSplit};
+ghost use Rattle.step_core.specs.EventRoom.{HasRoom, NeedsMemory};
 ghost use Rattle.step_core.specs.Good.{Good};
 ghost use Rattle.step_core.specs.Limits.{sizes_of};
-ghost use Rattle.step_core.specs.MeetSteps.{word_met, without};
+ghost use Rattle.step_core.specs.MeetSteps.{ticket_got, pass_added, draws_given, draws_joined, word_met, without};
 ghost use Rattle.step_core.specs.Places.{blocks, word_count};
 ghost use Rattle.step_core.specs.PlanTables.{AreTablesOf, plan_low, plan_high};
 ghost use Rattle.step_core.specs.SoundPlan.{IsSoundPlan};
-ghost use Rattle.step_core.specs.declared.event.Event.TheVariants.{LoadLower, LoadUpper, Raise, Cut, SeeSeal, Seal, Split, Meet};
+ghost use Rattle.step_core.specs.declared.event.Event.TheVariants.{LoadLower, LoadUpper, Raise, Cut, SeeSeal, Seal, Split, Meet, Draw, Stop, SeeStop};
 
 use crate::blocks::BLOCK_STATES;
+use crate::draws::SPLIT_DRAWS;
 use crate::event::Event;
 use crate::layout::Layout;
 use crate::machine::Core;
@@ -241,20 +242,68 @@ impl Core {
         if !self.is_live(pass) {
             return Ok(());
         }
+        let draws = SPLIT_DRAWS.min(self.draws(pass));
+        self.add_pass(pass, draws)?;
+        self.give(pass, draws);
+        Ok(())
+    }
+
+    // A live pass is added that knows the same, has no tickets, and may draw so often.
+    fn add_pass(&mut self, pass: u32, draws: u64) -> Result<(), AllocError>
+        requires pass { pass < length self.old.passes }
+        requires room { length self.old.passes < 4294967295 }
+        ensures given { IfOk result (λ _. self.new ≡ pass_added self.old pass draws) }
+        ensures kept { IfErr result (λ _. self.new ≡ self.old) }
+    {
         let known = &self.passes[pass as usize];
         let notes = Vec::from_slice(*self.words.allocator(), &known.notes)?;
-        self.passes.push(PassNotes { live: true, notes })?;
+        let tickets = Vec::new(*self.words.allocator());
+        self.passes.push(PassNotes {
+            live: true,
+            notes,
+            tickets,
+            draws,
+        })?;
+        Ok(())
+    }
+
+    // The pass gives some draws away.
+    fn give(&mut self, pass: u32, draws: u64)
+        requires pass { pass < length self.old.passes }
+        requires draws { draws ≤ (pass_at self.old pass).draws }
+        ensures { self.new ≡ draws_given self.old pass draws }
+    {
+        let known = &mut self.passes[pass as usize];
+        known.draws -= draws;
+    }
+
+    // The kept pass gets the tickets and the draws of the other.
+    fn join_draws(&mut self, kept: u32, other: u32) -> Result<(), AllocError>
+        requires kept { kept < length self.old.passes }
+        requires other { other < length self.old.passes }
+        requires room { (pass_at self.old kept).draws + (pass_at self.old other).draws < 2 ^ 64 }
+        ensures given { IfOk result (λ _. self.new ≡ draws_joined self.old kept other) }
+        ensures kept { IfErr result (λ _. self.new ≡ self.old) }
+    {
+        let theirs = &self.passes[other as usize];
+        let mine = &self.passes[kept as usize];
+        let draws = mine.draws + theirs.draws;
+        let mut tickets = Vec::from_slice(*self.words.allocator(), &mine.tickets)?;
+        tickets.extend_from_slice(&theirs.tickets)?;
+        let known = &mut self.passes[kept as usize];
+        known.tickets = tickets;
+        known.draws = draws;
         Ok(())
     }
 
     // The kept pass notes the better of both notes of the word at a place.
-    fn meet_word(&mut self, kept: u32, ended: u32, place: usize)
+    fn meet_word(&mut self, kept: u32, other: u32, place: usize)
         requires kept { kept < length self.old.passes }
-        requires ended { ended < length self.old.passes }
+        requires other { other < length self.old.passes }
         requires place { place < word_count self.old.sizes }
-        ensures { self.new ≡ word_met self.old kept ended place }
+        ensures { self.new ≡ word_met self.old kept other place }
     {
-        let theirs = self.note(ended, place);
+        let theirs = self.note(other, place);
         let mine = self.note(kept, place);
         let better = self.layout.better(place, mine, theirs);
         let known = &mut self.passes[kept as usize];
@@ -271,22 +320,82 @@ impl Core {
     }
 
     // Whether both passes are live, and they are two.
-    fn can_meet(&self, kept: u32, ended: u32) -> bool
-        ensures { result ≡ can_meet self.now kept ended }
+    fn can_meet(&self, kept: u32, other: u32) -> bool
+        ensures { result ≡ can_meet self.now kept other }
     {
-        self.is_live(kept) && (self.is_live(ended) && kept != ended)
+        self.is_live(kept) && (self.is_live(other) && kept != other)
     }
 
-    fn meet(&mut self, plan: &Plan, kept: u32, ended: u32)
+    fn meet(&mut self, plan: &Plan, kept: u32, other: u32) -> Result<(), AllocError>
         requires sound { IsSoundPlan plan.now }
         requires good { Good plan.now self.old }
-        ensures { self.new ≡ event_gives plan.now self.old (Meet kept ended) }
+        ensures given { IfOk result (λ _. self.new ≡ event_gives plan.now self.old (Meet kept other)) }
+        ensures kept { IfErr result (λ _. self.new ≡ self.old) }
     {
-        if self.can_meet(kept, ended) {
+        if self.can_meet(kept, other) {
+            self.join_draws(kept, other)?;
             for place in 0..Layout::of(plan).word_count() {
-                self.meet_word(kept, ended, place);
+                self.meet_word(kept, other, place);
             }
-            self.end(ended);
+            self.end(other);
+        }
+        Ok(())
+    }
+
+    // Whether the pass is live, and has a draw.
+    fn can_draw(&self, pass: u32) -> bool
+        ensures { result ≡ can_draw self.now pass }
+    {
+        match self.passes.get(pass as usize) {
+            Some(known) => known.live && known.draws > 0,
+            None => false,
+        }
+    }
+
+    // The pass gets a ticket, for one of its draws.
+    fn take_ticket(&mut self, pass: u32, ticket: u64) -> Result<(), AllocError>
+        requires pass { pass < length self.old.passes }
+        requires draw { 0 < (pass_at self.old pass).draws }
+        ensures given { IfOk result (λ _. self.new ≡ ticket_got self.old pass ticket) }
+        ensures kept { IfErr result (λ _. self.new ≡ self.old) }
+    {
+        let known = &mut self.passes[pass as usize];
+        known.tickets.push(ticket)?;
+        known.draws -= 1;
+        Ok(())
+    }
+
+    fn draw(&mut self, plan: &Plan, pass: u32) -> Result<(), AllocError>
+        requires sound { IsSoundPlan plan.now }
+        requires good { Good plan.now self.old }
+        ensures given { IfOk result (λ _. self.new ≡ event_gives plan.now self.old (Draw pass)) }
+        ensures kept { IfErr result (λ _. self.new ≡ self.old) }
+    {
+        if self.can_draw(pass) {
+            let ticket = self.ticket();
+            self.take_ticket(pass, ticket)?;
+            self.turn(pass, Layout::of(plan).ticket_place(), ticket + 1);
+        }
+        Ok(())
+    }
+
+    fn stop(&mut self, plan: &Plan, pass: u32)
+        requires sound { IsSoundPlan plan.now }
+        requires good { Good plan.now self.old }
+        ensures { self.new ≡ event_gives plan.now self.old (Stop pass) }
+    {
+        if self.is_live(pass) {
+            self.turn(pass, Layout::of(plan).stop_place(), 1);
+        }
+    }
+
+    fn see_stop(&mut self, plan: &Plan, pass: u32)
+        requires sound { IsSoundPlan plan.now }
+        requires good { Good plan.now self.old }
+        ensures { self.new ≡ event_gives plan.now self.old (SeeStop pass) }
+    {
+        if self.is_live(pass) {
+            self.note_word(pass, Layout::of(plan).stop_place());
         }
     }
 
@@ -294,7 +403,8 @@ impl Core {
     ///
     /// An event changes nothing where a pass that it names isn't live, its layer, state or block is
     /// out of range, it would change layer 0, a seal's block isn't done, or a pass meets itself.
-    /// The only error is want of memory, for a split; the machine is then as it was.
+    /// So does a draw of a pass that has none left. The only error is want of memory, for a split, a
+    /// meeting or a draw; the machine is then as it was.
     pub fn apply(&mut self, plan: &Plan, tables: &Tables, event: Event) -> Result<(), AllocError>
         requires sound { IsSoundPlan plan.now }
         requires good { Good plan.now self.old }
@@ -302,7 +412,7 @@ impl Core {
         requires room { HasRoom self.old event }
         ensures given { IfOk result (λ _. self.new ≡ event_gives plan.now self.old event) }
         ensures kept { IfErr result (λ _. self.new ≡ self.old) }
-        ensures only_split { IfErr result (λ _. IsSplit event) }
+        ensures needs_memory { IfErr result (λ _. NeedsMemory event) }
         ensures good { Good plan.now self.new }
     {
         match event {
@@ -313,7 +423,10 @@ impl Core {
             Event::SeeSeal(pass, k, b) => self.see_seal(plan, pass, k, b),
             Event::Seal(pass, k, b) => self.seal_block(plan, tables, pass, k, b),
             Event::Split(pass) => return self.split_pass(pass),
-            Event::Meet(kept, ended) => self.meet(plan, kept, ended),
+            Event::Meet(kept, other) => return self.meet(plan, kept, other),
+            Event::Draw(pass) => return self.draw(plan, pass),
+            Event::Stop(pass) => self.stop(plan, pass),
+            Event::SeeStop(pass) => self.see_stop(plan, pass),
         }
         Ok(())
     }

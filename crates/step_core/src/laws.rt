@@ -2,7 +2,8 @@
 ghost use Rattle.step_core.specs.PlanLaws.{FrameRowsAreWhole, LowTableRounds, HighTableRounds, BoundedHighTableRounds};
 ghost use Rattle.step_core.specs.PlanLaws.{UnboundedHighTableIsAbove};
 ghost use Rattle.step_core.specs.GoodLaws.{WordsLieBeside, FirstLayerIsDone, SealsAreSetOrNot, FirstLayerIsSealed, SealedIsDone};
-ghost use Rattle.step_core.specs.GoodLaws.{NotesAreNoBetter, SealNotesAreNoBetter};
+ghost use Rattle.step_core.specs.GoodLaws.{NotesAreNoBetter, SealNotesAreNoBetter, StopIsSetOrNot, StopNotesAreNoBetter};
+ghost use Rattle.step_core.specs.GoodLaws.{DrawsHaveRoom, TicketsAreBelow, TicketsStandOnce, TicketsAreApart};
 ghost use Rattle.step_core.specs.ReachLaws.{WalksAreFound};
 
 /// The numbers of each row of a sound frame add up to its divisor, which is positive.
@@ -26,7 +27,8 @@ pub fn walks_are_found()
 {}
 
 /// Over a good machine each word lies on its side of the tables, layer 0 and each sealed block are
-/// at the tables, and no note of a live pass is better than its word.
+/// at the tables, no note of a live pass is better than its word, there is room for all draws that
+/// live passes have left, and all their tickets are below the next one and differ.
 pub fn good_machine_bounds()
     ensures words { WordsLieBeside }
     ensures first_layer { FirstLayerIsDone }
@@ -35,4 +37,10 @@ pub fn good_machine_bounds()
     ensures sealed { SealedIsDone }
     ensures notes { NotesAreNoBetter }
     ensures seal_notes { SealNotesAreNoBetter }
+    ensures stop { StopIsSetOrNot }
+    ensures stop_notes { StopNotesAreNoBetter }
+    ensures draws { DrawsHaveRoom }
+    ensures tickets { TicketsAreBelow }
+    ensures once { TicketsStandOnce }
+    ensures apart { TicketsAreApart }
 {}

@@ -1,7 +1,7 @@
 ghost use Rattle.std.specs.Prelude.{◌≡◌, ◌<◌, ◌≤◌};
 ghost use Rattle.step_core.specs.BoardRule.{better_of};
 ghost use Rattle.step_core.specs.Limits.{sizes_of};
-ghost use Rattle.step_core.specs.Places.{blocks, lower_place, upper_place, seal_place, word_count, falls};
+ghost use Rattle.step_core.specs.Places.{blocks, lower_place, upper_place, seal_place, ticket_place, stop_place, word_count, falls};
 ghost use Rattle.step_core.specs.SoundPlan.{IsSoundPlan};
 
 use crate::blocks::BLOCK_STATES;
@@ -9,7 +9,8 @@ use crate::plan::Plan;
 use std::marker::Model;
 
 /// Where each word of a board stands: word 0, which is always 0, then the lower words layer by
-/// layer, the upper words layer by layer, and a seal for each layer and block.
+/// layer, the upper words layer by layer, a seal for each layer and block, the word from which
+/// tickets are drawn, and the stop word.
 #[derive(Clone, Copy, Debug)]
 pub struct Layout {
     layers: u32,
@@ -72,7 +73,7 @@ impl Layout {
         ensures { result ≡ word_count self }
     {
         let layers = self.layers as usize + 1;
-        1 + (2 * (layers * self.states as usize) + layers * self.blocks() as usize)
+        1 + (2 * (layers * self.states as usize) + (layers * self.blocks() as usize + 2))
     }
 
     /// The place of a lower word.
@@ -108,6 +109,24 @@ impl Layout {
     {
         let cells = (self.layers as usize + 1) * self.states as usize;
         1 + (2 * cells + (k as usize * self.blocks() as usize + b as usize))
+    }
+
+    /// The place of the word from which tickets are drawn.
+    #[inline]
+    pub fn ticket_place(self) -> usize
+        ensures place { result ≡ ticket_place self }
+        ensures inside { result < word_count self }
+    {
+        self.word_count() - 2
+    }
+
+    /// The place of the stop word.
+    #[inline]
+    pub fn stop_place(self) -> usize
+        ensures place { result ≡ stop_place self }
+        ensures inside { result < word_count self }
+    {
+        self.word_count() - 1
     }
 
     /// The better of two values of the word at a place: the smaller one of an upper word, and the

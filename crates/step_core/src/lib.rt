@@ -4,6 +4,7 @@
 mod applying;
 mod blocks;
 mod bracket;
+mod draws;
 mod event;
 mod frame;
 mod laws;
@@ -25,6 +26,7 @@ mod words;
 
 pub use blocks::BLOCK_STATES;
 pub use bracket::Bracket;
+pub use draws::{MOST_DRAWS, SPLIT_DRAWS};
 pub use event::Event;
 pub use frame::Frame;
 pub use laws::{frame_rows_are_whole, good_machine_bounds, plan_tables_round, walks_are_found};

@@ -1,9 +1,10 @@
 ghost use Rattle.std.specs.Prelude.{◌≡◌, ◌<◌, ◌≤◌, IfOk, IfErr, length, slice_index, ◌==◌};
-ghost use Rattle.step_core.specs.CoreLists.{pass_at, lower_at, upper_at, seal_at, opening};
+ghost use Rattle.step_core.specs.CoreLists.{pass_at, lower_at, upper_at, seal_at, ticket_at, stop_at, opening};
 ghost use Rattle.step_core.specs.Good.{Good};
 ghost use Rattle.step_core.specs.Places.{blocks, word_count};
 ghost use Rattle.step_core.specs.SoundPlan.{IsSoundPlan};
 
+use crate::draws::MOST_DRAWS;
 use crate::layout::Layout;
 use crate::opening::words_at_start;
 use crate::pass_notes::PassNotes;
@@ -35,7 +36,7 @@ impl Model for Core {
 }
 
 impl Core {
-    /// The machine at the start. It has one pass, number 0, which knows all words.
+    /// The machine at the start. It has one pass, number 0, which knows all words and has all draws.
     ///
     /// The only error is want of memory.
     pub fn open(alloc: Global, plan: &Plan) -> Result<Core, AllocError>
@@ -45,7 +46,13 @@ impl Core {
     {
         let words = words_at_start(alloc, plan)?;
         let notes = words_at_start(alloc, plan)?;
-        let passes = vec![in alloc; PassNotes { live: true, notes }]?;
+        let first = PassNotes {
+            live: true,
+            notes,
+            tickets: Vec::new(alloc),
+            draws: MOST_DRAWS,
+        };
+        let passes = vec![in alloc; first]?;
         Ok(Core {
             layout: Layout::of(plan),
             words,
@@ -95,6 +102,37 @@ impl Core {
         self.words[self.layout.seal_place(k, b)] == 1
     }
 
+    /// The next ticket.
+    pub fn ticket(&self) -> u64
+        ensures { result ≡ ticket_at self.now.sizes self.now.words }
+    {
+        self.words[self.layout.ticket_place()]
+    }
+
+    /// Whether the stop word is set.
+    pub fn stopped(&self) -> bool
+        ensures { result ≡ (stop_at self.now.sizes self.now.words == 1) }
+    {
+        self.words[self.layout.stop_place()] == 1
+    }
+
+    /// The tickets that a pass has drawn, or got from another pass, in this order.
+    pub fn tickets(&self, pass: u32) -> &[u64]
+        requires pass { pass < length self.now.passes }
+        ensures { result.now ≡ (pass_at self.now pass).tickets }
+    {
+        let known = &self.passes[pass as usize];
+        &known.tickets
+    }
+
+    /// How often a pass may draw.
+    pub fn draws(&self, pass: u32) -> u64
+        requires pass { pass < length self.now.passes }
+        ensures { result ≡ (pass_at self.now pass).draws }
+    {
+        self.passes[pass as usize].draws
+    }
+
     /// A pass's note of a lower word.
     pub fn note_lower(&self, pass: u32, k: u32, s: u32) -> u64
         requires pass { pass < length self.now.passes }
@@ -123,6 +161,14 @@ impl Core {
         ensures { result ≡ (seal_at self.now.sizes (pass_at self.now pass).notes k b == 1) }
     {
         self.note(pass, self.layout.seal_place(k, b)) == 1
+    }
+
+    /// Whether a pass notes the stop word as set.
+    pub fn note_stop(&self, pass: u32) -> bool
+        requires pass { pass < length self.now.passes }
+        ensures { result ≡ (stop_at self.now.sizes (pass_at self.now pass).notes == 1) }
+    {
+        self.note(pass, self.layout.stop_place()) == 1
     }
 
     // A pass's note of the word at a place.

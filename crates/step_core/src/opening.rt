@@ -49,5 +49,6 @@ pub fn words_at_start(alloc: Global, plan: &Plan) -> Result<Vec<u64>, AllocError
     push_many(&mut words, rest, ONE)?;
     push_many(&mut words, blocks, 1)?;
     push_many(&mut words, layers * blocks, 0)?;
+    push_many(&mut words, 2, 0)?;
     Ok(words)
 }

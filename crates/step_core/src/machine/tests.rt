@@ -6,6 +6,7 @@ ghost use Rattle.step_core.specs.Good.{Good};
 ghost use Rattle.step_core.specs.PlanTables.{AreTablesOf};
 ghost use Rattle.step_core.specs.SoundPlan.{IsSoundPlan};
 
+use crate::draws::{MOST_DRAWS, SPLIT_DRAWS};
 use crate::event::Event;
 use crate::machine::Core;
 use crate::one_thread::plain_tables;
@@ -20,7 +21,7 @@ const QUARTER: u64 = ONE / 4;
 
 // Passes, layers, states and blocks that aren't there, layer 0, a block that isn't done, and a pass
 // that meets itself.
-const IDLE: [Event; 16] = [
+const IDLE: [Event; 19] = [
     Event::LoadLower(1, 1, 0),
     Event::LoadUpper(0, 5, 0),
     Event::LoadLower(0, 1, 4),
@@ -37,16 +38,22 @@ const IDLE: [Event; 16] = [
     Event::Split(1),
     Event::Meet(0, 0),
     Event::Meet(0, 1),
+    Event::Draw(1),
+    Event::Stop(1),
+    Event::SeeStop(1),
 ];
 
 // Events of a pass that has ended.
-const ENDED: [Event; 6] = [
+const ENDED: [Event; 9] = [
     Event::LoadLower(1, 1, 1),
     Event::Raise(1, 2, 3),
     Event::Cut(1, 2, 3),
     Event::Split(1),
     Event::Meet(0, 1),
     Event::Meet(1, 0),
+    Event::Draw(1),
+    Event::Stop(1),
+    Event::SeeStop(1),
 ];
 
 // What a machine knows of a state in a layer.
@@ -250,5 +257,120 @@ fn a_pass_that_has_ended_does_nothing(rt: HostRuntime) -> Result<(), Fail> {
     let met = [Event::Split(0), Event::Meet(0, 1)];
     assert_eq!(rt; changing(rt.alloc(), &met, &ENDED)?, 0);
     assert_eq!(rt; changing(rt.alloc(), &met, &[Event::Raise(0, 1, 0)])?, 1);
+    Ok(())
+}
+
+// The tickets of a pass, its draws, the next ticket, and whether the pass and the machine know of a
+// stop.
+#[derive(Debug, PartialEq, Eq, Drop)]
+struct Tally {
+    tickets: Vec<u64>,
+    draws: u64,
+    next: u64,
+    stops: (bool, bool),
+}
+
+// What a pass has drawn after some events, if it is there.
+fn drawn(alloc: Global, pass: u32, events: &[Event]) -> Result<Option<Tally>, AllocError> {
+    let plan = four_states(alloc)?;
+    let tables = plain_tables(alloc, &plan)?;
+    let core = after(alloc, &plan, &tables, events)?;
+    if pass < core.passes() {
+        Ok(Some(Tally {
+            tickets: Vec::from_slice(alloc, core.tickets(pass))?,
+            draws: core.draws(pass),
+            next: core.ticket(),
+            stops: (core.note_stop(pass), core.stopped()),
+        }))
+    } else {
+        Ok(None)
+    }
+}
+
+const DRAWS: [Event; 6] = [
+    Event::Draw(0),
+    Event::Split(0),
+    Event::Draw(1),
+    Event::Draw(0),
+    Event::Draw(1),
+    Event::Draw(1),
+];
+
+#[test]
+fn passes_draw_tickets_that_differ(rt: HostRuntime) -> Result<(), Fail> {
+    let alloc = rt.alloc();
+    let first = Tally {
+        tickets: vec![in alloc; 0, 2]?,
+        draws: MOST_DRAWS - SPLIT_DRAWS - 2,
+        next: 5,
+        stops: (false, false),
+    };
+    assert_eq!(rt; drawn(alloc, 0, &DRAWS)?, Some(first));
+    let second = Tally {
+        tickets: vec![in alloc; 1, 3, 4]?,
+        draws: SPLIT_DRAWS - 3,
+        next: 5,
+        stops: (false, false),
+    };
+    assert_eq!(rt; drawn(alloc, 1, &DRAWS)?, Some(second));
+    Ok(())
+}
+
+#[test]
+fn passes_that_meet_have_the_tickets_of_both(rt: HostRuntime) -> Result<(), Fail> {
+    let alloc = rt.alloc();
+    let events = [
+        Event::Split(0),
+        Event::Draw(1),
+        Event::Draw(0),
+        Event::Stop(1),
+        Event::Meet(0, 1),
+    ];
+    let both = Tally {
+        tickets: vec![in alloc; 1, 0]?,
+        draws: MOST_DRAWS - 2,
+        next: 2,
+        stops: (true, true),
+    };
+    assert_eq!(rt; drawn(alloc, 0, &events)?, Some(both));
+    Ok(())
+}
+
+#[test]
+fn a_stop_is_seen_by_those_that_look(rt: HostRuntime) -> Result<(), Fail> {
+    let alloc = rt.alloc();
+    let blind = Tally {
+        tickets: Vec::new(alloc),
+        draws: MOST_DRAWS - SPLIT_DRAWS,
+        next: 0,
+        stops: (false, true),
+    };
+    let events = [Event::Split(0), Event::SeeStop(0), Event::Stop(1)];
+    assert_eq!(rt; drawn(alloc, 0, &events)?, Some(blind));
+    let events = [Event::Split(0), Event::Stop(1), Event::SeeStop(0)];
+    let seen = Tally {
+        tickets: Vec::new(alloc),
+        draws: MOST_DRAWS - SPLIT_DRAWS,
+        next: 0,
+        stops: (true, true),
+    };
+    assert_eq!(rt; drawn(alloc, 0, &events)?, Some(seen));
+    Ok(())
+}
+
+// 128 passes are split off, and have all draws: the first pass has none left.
+#[test]
+fn a_pass_without_draws_draws_nothing(rt: HostRuntime) -> Result<(), Fail> {
+    let alloc = rt.alloc();
+    let spent = vec![in alloc; Event::Split(0); 128]?;
+    assert_eq!(rt; changing(alloc, &spent, &[Event::Draw(0)])?, 0);
+    assert_eq!(rt; changing(alloc, &spent, &[Event::Draw(128)])?, 1);
+    let last = Tally {
+        tickets: Vec::new(alloc),
+        draws: SPLIT_DRAWS,
+        next: 0,
+        stops: (false, false),
+    };
+    assert_eq!(rt; drawn(alloc, 128, &spent)?, Some(last));
     Ok(())
 }

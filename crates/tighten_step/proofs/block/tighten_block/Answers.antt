@@ -42,3 +42,14 @@ returns-clause-answer c =
           tightened,
       λ _. refl,
     )
+
+pub returns-then-not-all-clause-answer : goal.returns-then-not-all-clause-answer
+returns-then-not-all-clause-answer c =
+    let b = c.args.board.now in
+    let j : ℕ = c.args.k - 1 in
+    let below : j ≤ b.plan.layers = omega (arith, c.requires.layer) in (
+      λ unset. absurd (true≢false (sym unset)),
+      λ noted. (let seen = layer_same b c.tighten_states.new.pass c.see_layer-all.new.pass j
+          (λ d lt. sym (c.tighten_states.ensures.seals j d below lt)) noted in
+          absurd (true≢false (sym (c.see_layer-all.ensures.answer.1 seen) ∙ c.if-not-all.true))),
+    )

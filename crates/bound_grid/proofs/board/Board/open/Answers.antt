@@ -5,7 +5,9 @@ use Rattle.step_core.specs.FrameLists.{RowLists, SetLists}
 use Rattle.bound_grid.specs.Notes.{AreNotes}
 use Rattle.bound_grid.specs.PassView.{PassView, first_view}
 use Rattle.bound_grid.specs.TableRule.{IsKept}
-use Rattle.step_core.proofs.OpeningLemmas.{length-opening_words}
+use Rattle.step_core.specs.CoreLists.{stop_at}
+use Rattle.step_core.specs.Limits.{sizes_of}
+use Rattle.step_core.proofs.OpeningLemmas.{length-opening_words, first_stop}
 use Rattle.bound_grid.proofs.KeptLemmas.{kept_first}
 use Rattle.bound_grid.proofs.NoteLemmas.{notes_first}
 use Rattle.bound_grid.proofs.board.Board.open.Goals as goal
@@ -35,6 +37,7 @@ invariant_of-board c =
       keyed = made.5;
       sized = made.0 ∙ (ap (λ (ws : List ℕ). length ws) (c.as_slice.ensures.value ∙ c.in_ok-words.ensures)
           ∙ length-opening_words c.args.plan c.requires.sound);
+      few = c.requires.cells;
     }
 
 pub returns-clause-pass : goal.returns-clause-pass
@@ -48,3 +51,13 @@ returns-clause-pass c =
       limits = ap (λ (m : Me ℕ PassView). m.0.limits) made.4;
       notes = subst (AreNotes c.args.plan) (sym words) (notes_first c.args.plan c.requires.sound);
     }
+
+pub returns-clause-tickets : goal.returns-clause-tickets
+returns-clause-tickets c = ap (λ (m : Me ℕ PassView). m.0.tickets) c.in_ok-table.ensures.4
+
+pub returns-clause-draws : goal.returns-clause-draws
+returns-clause-draws c = ap (λ (m : Me ℕ PassView). m.0.draws) c.in_ok-table.ensures.4
+
+pub returns-clause-stop : goal.returns-clause-stop
+returns-clause-stop c =
+    ap (λ (m : Me ℕ PassView). stop_at (sizes_of c.args.plan) m.0.notes) c.in_ok-table.ensures.4 ∙ first_stop c.args.plan c.requires.sound

@@ -6,7 +6,7 @@ use Rattle.step_core.specs.Good.{Good}
 use Rattle.step_core.specs.PlanLists.{PlanLists}
 use Rattle.step_core.specs.SoundPlan.{IsSoundPlan}
 use Rattle.step_core.specs.declared.event.Event.{Event}
-use Rattle.step_core.specs.declared.event.Event.TheVariants.{LoadLower, LoadUpper, Raise, Cut, SeeSeal, Seal, Split, Meet}
+use Rattle.step_core.specs.declared.event.Event.TheVariants.{LoadLower, LoadUpper, Raise, Cut, SeeSeal, Seal, Split, Meet, Draw, Stop, SeeStop}
 use Rattle.step_core.proofs.CoreLemmas.{good_event}
 use Rattle.step_core.proofs.machine.Core.apply.Goals as goal
 
@@ -58,4 +58,18 @@ returns-in-Split-clause-good c =
 
 pub returns-in-Meet-clause-good : goal.returns-in-Meet-clause-good
 returns-in-Meet-clause-good c =
-    given c.args.plan.now c.args.self.now _ (Meet c.in-Meet.kept c.in-Meet.ended) c.requires.sound c.requires.good c.meet.ensures
+    given_or_kept c.args.plan.now c.args.self.now c.meet.new.self (Meet c.in-Meet.kept c.in-Meet.other) c.meet.result c.requires.sound
+    c.requires.good c.meet.ensures.given c.meet.ensures.kept
+
+pub returns-in-Draw-clause-good : goal.returns-in-Draw-clause-good
+returns-in-Draw-clause-good c =
+    given_or_kept c.args.plan.now c.args.self.now c.draw.new.self (Draw c.in-Draw.pass) c.draw.result c.requires.sound
+    c.requires.good c.draw.ensures.given c.draw.ensures.kept
+
+pub returns-in-Stop-clause-good : goal.returns-in-Stop-clause-good
+returns-in-Stop-clause-good c =
+    given c.args.plan.now c.args.self.now _ (Stop c.in-Stop.pass) c.requires.sound c.requires.good c.stop.ensures
+
+pub returns-in-SeeStop-clause-good : goal.returns-in-SeeStop-clause-good
+returns-in-SeeStop-clause-good c =
+    given c.args.plan.now c.args.self.now _ (SeeStop c.in-SeeStop.pass) c.requires.sound c.requires.good c.see_stop.ensures
