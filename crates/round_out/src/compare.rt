@@ -7,8 +7,6 @@ use std::cmp::Ordering;
 /// Compares `num / den` with `c / 10^x`, exactly.
 pub fn cmp_frac(num: u64, den: u64, c: u64, x: u32) -> Ordering
     requires positive { 0 < den }
-    requires den_fits { den < 2 ^ 63 }
-    requires num_fits { num < 2 ^ 63 }
     requires places { x ≤ 18 }
     requires digits { c ≤ 10 ^ 18 }
     ensures { let p = fraction num den in
@@ -38,16 +36,10 @@ mod tests {
             cmp_frac(3, 10, 299_999_999_999_999_999, 18),
             Ordering::Greater
         );
+        assert_eq!(rt; cmp_frac(u64::MAX, u64::MAX, one, 18), Ordering::Equal);
+        assert_eq!(rt; cmp_frac(u64::MAX - 1, u64::MAX, one, 18), Ordering::Less);
         assert_eq!(rt;
-            cmp_frac((1 << 63) - 1, (1 << 63) - 1, one, 18),
-            Ordering::Equal
-        );
-        assert_eq!(rt;
-            cmp_frac((1 << 63) - 2, (1 << 63) - 1, one, 18),
-            Ordering::Less
-        );
-        assert_eq!(rt;
-            cmp_frac((1 << 63) - 1, (1 << 63) - 2, one, 18),
+            cmp_frac(u64::MAX, u64::MAX - 1, one, 18),
             Ordering::Greater
         );
     }
