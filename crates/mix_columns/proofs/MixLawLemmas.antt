@@ -47,6 +47,13 @@ settled_rises true can_reach outer inner h = record { lower = omega arith; upper
 settled_rises false true outer inner h = h
 settled_rises false false outer inner h = record { lower = omega arith; upper = omega arith }
 
+-- a settled bracket stays as it is
+pub settle_again : (is_goal can_reach : Bool) (mixed : WordBracket)
+    → settle is_goal can_reach mixed ≡ settle is_goal can_reach (settle is_goal can_reach mixed)
+settle_again true can_reach mixed = refl
+settle_again false true mixed = refl
+settle_again false false mixed = refl
+
 -- ---- columns of which the words past place j are missing
 module _ (xs : List ℕ) (j : ℕ) where
   front_word : (k d : ℕ) → k < j → get_or (take j xs) k d ≡ get_or xs k d

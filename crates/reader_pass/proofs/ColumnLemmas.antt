@@ -3,6 +3,7 @@ use Rattle.std.proofs.Common.{◌≡◌, ◌≢◌, ℕ, suc, ◌+◌, ◌*◌, 
 use Rattle.std.proofs.lemmas.List.{ext_get_or, get_or-set_same, get_or-set_other, length-set}
 use Rattle.std.proofs.lemmas.List.FromFn.{get_or-map-range_with_len, length-map-range_with_len, map-range_with_len_more}
 use Rattle.std.specs.List.{range_with_len}
+use Rattle.reader_pass.specs.NotedWords.{lower_notes, upper_notes}
 use Rattle.step_core.specs.CoreLists.{lower_at, upper_at}
 use Rattle.step_core.specs.Limits.{sizes_of}
 use Rattle.step_core.specs.Places.{Sizes, cells, lower_place, upper_place, word_count}
@@ -36,16 +37,9 @@ module _ (plan : PlanLists) (s : ℕ) where
   abbrev z : Sizes
   z = sizes_of plan
 
-  -- the notes of the lower words and of the upper ones in the first n layers
-  abbrev pub lower_notes : List ℕ → ℕ → List ℕ
-  lower_notes notes n = firsts (λ k. lower_at z notes k s) n
-
-  abbrev pub upper_notes : List ℕ → ℕ → List ℕ
-  upper_notes notes n = firsts (λ k. upper_at z notes k s) n
-
   -- the mix of whole columns is that of all notes
   pub mix_of_notes : (notes : List ℕ) (n : ℕ) → n ≡ suc plan.layers
-      → whole_mix plan (lower_notes notes n) (upper_notes notes n)
+      → whole_mix plan (lower_notes plan s notes n) (upper_notes plan s notes n)
       ≡ plan_mix plan (λ k. lower_at z notes k s) (λ k. upper_at z notes k s)
   mix_of_notes notes n all =
       mix_reads plan.layers plan.mix _ _ (λ k. lower_at z notes k s) (λ k. upper_at z notes k s)
@@ -105,17 +99,17 @@ module _ (plan : PlanLists) (s : ℕ) where
         get_or-set_other one (upper_place z k s) (upper_place z j s) y 0 (high_not_high j l)
         ∙ get_or-set_other notes (lower_place z k s) (upper_place z j s) x 0 (high_not_low j)
 
-    pub lower_next : lower_notes both (k + 1) ≡ lower_notes notes k ++ x ∷ []
+    pub lower_next : lower_notes plan s both (k + 1) ≡ lower_notes plan s notes k ++ x ∷ []
     lower_next =
         firsts_more (λ i. lower_at z notes i s) (λ i. lower_at z both i s) k x (λ j l. sym (lower_before j l)) lower_here
 
-    pub upper_next : upper_notes both (k + 1) ≡ upper_notes notes k ++ y ∷ []
+    pub upper_next : upper_notes plan s both (k + 1) ≡ upper_notes plan s notes k ++ y ∷ []
     upper_next =
         firsts_more (λ i. upper_at z notes i s) (λ i. upper_at z both i s) k y (λ j l. sym (upper_before j l)) upper_here
 
     -- so a mixer that stands for the notes and takes both words stands for the notes as they are then
-    pub stands_next : (m : MixNumbers) → StandsFor plan m (lower_notes notes k ++ x ∷ []) (upper_notes notes k ++ y ∷ [])
-        → StandsFor plan m (lower_notes both (k + 1)) (upper_notes both (k + 1))
+    pub stands_next : (m : MixNumbers) → StandsFor plan m (lower_notes plan s notes k ++ x ∷ []) (upper_notes plan s notes k ++ y ∷ [])
+        → StandsFor plan m (lower_notes plan s both (k + 1)) (upper_notes plan s both (k + 1))
     stands_next m h =
-        subst (λ xs. StandsFor plan m xs (upper_notes both (k + 1))) (sym lower_next)
-        (subst (λ ys. StandsFor plan m (lower_notes notes k ++ x ∷ []) ys) (sym upper_next) h)
+        subst (λ xs. StandsFor plan m xs (upper_notes plan s both (k + 1))) (sym lower_next)
+        (subst (λ ys. StandsFor plan m (lower_notes plan s notes k ++ x ∷ []) ys) (sym upper_next) h)

@@ -1,3 +1,4 @@
 pub mod NotedLemmas
 pub mod ColumnLemmas
 pub mod TwoStates
+pub mod ListedBrackets

@@ -1,7 +1,8 @@
 -- The brackets of notes lie in one another as the notes do.
-use Rattle.std.proofs.Common.{◌≡◌, ℕ, ◌+◌, ◌≤◌, ◌<◌, List, length, sym, ap, subst, inl, inr, arith}
+use Rattle.std.proofs.Common.{◌≡◌, ℕ, ◌+◌, ◌≤◌, ◌<◌, List, length, sym, ap, ◌∙◌, subst, inl, inr, arith}
 use Rattle.std.proofs.lemmas.Bool.{cases_eq}
 use Rattle.ctmc_semantics.specs.Sets.{holds_at}
+use Rattle.ctmc_semantics.specs.WordBracket.{WordBracket}
 use Rattle.step_core.specs.BoardRule.{Better, NoWorse}
 use Rattle.step_core.specs.CoreLists.{lower_at, upper_at}
 use Rattle.step_core.specs.Limits.{sizes_of, limits_of}
@@ -11,16 +12,20 @@ use Rattle.step_core.specs.PlanTables.{plan_low, plan_high}
 use Rattle.step_core.specs.SoundPlan.{IsSoundPlan}
 use Rattle.step_core.proofs.LimitLemmas.{lower_limit, upper_limit}
 use Rattle.step_core.proofs.PlaceLemmas.{lower_rises, upper_falls}
-use Rattle.mix_columns.specs.Mixed.{plan_settle, one_thread_words}
+use Rattle.mix_columns.specs.Mixed.{plan_mix, plan_settle, one_thread_words}
 use Rattle.mix_columns.specs.MixLaws.{EnclosesWords}
-use Rattle.mix_columns.proofs.MixLawLemmas.{mix_rises, mix_reads, settled_rises}
+use Rattle.mix_columns.proofs.MixLawLemmas.{mix_rises, mix_reads, settle_again, settled_rises}
 use Rattle.bound_grid.specs.Notes.{AreNotes}
-use Rattle.reader_pass.specs.NotedWords.{noted_words}
+use Rattle.reader_pass.specs.NotedWords.{AtTables, noted_words}
 
--- the notes of the state's words in a layer are at their limits
-pub record AtTables (plan : PlanLists) (s : ℕ) (notes : List ℕ) (k : ℕ) : Type 0 where
-  pub lower : lower_at (sizes_of plan) notes k s ≡ plan_low plan k s
-  pub upper : upper_at (sizes_of plan) notes k s ≡ plan_high plan k s
+-- the bracket of notes is settled
+pub noted_settled : (plan : PlanLists) (notes : List ℕ) (s : ℕ) (words : WordBracket) → words ≡ noted_words plan notes s
+    → words ≡ plan_settle plan s words
+noted_settled plan notes s words is =
+    is
+    ∙ settle_again (holds_at plan.frame.sets.goal_must s) (holds_at plan.reach s)
+    (plan_mix plan (λ k. lower_at (sizes_of plan) notes k s) (λ k. upper_at (sizes_of plan) notes k s))
+    ∙ ap (plan_settle plan s) (sym is)
 
 module _ (plan : PlanLists) (s : ℕ) (inside : s < length plan.frame.rows) where
   abbrev z : Sizes

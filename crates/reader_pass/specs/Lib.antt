@@ -1,1 +1,2 @@
 pub mod NotedWords
+pub mod StateBrackets

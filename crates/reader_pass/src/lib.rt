@@ -1,10 +1,12 @@
-//! The bracket that a pass reads of a state.
+//! The brackets that a pass reads of states.
 #![tactic(auto)]
 
 mod column;
 mod laws;
+mod states;
 #[cfg(test)]
 mod tests;
 
-pub use column::read;
+pub use column::{read, read_front};
 pub use laws::better_notes_are_narrower;
+pub use states::read_states;

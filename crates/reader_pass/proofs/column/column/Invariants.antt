@@ -2,9 +2,8 @@ use Rattle.std.proofs.Common.{ℕ, ◌<◌}
 use Rattle.bound_grid.specs.Passes.{KnowsMore, notes_of}
 use Rattle.bound_grid.specs.SealNotes.{NotesColumn}
 use Rattle.mix_columns.specs.MixNumbers.{StandsFor}
-use Rattle.reader_pass.proofs.ColumnLemmas.{lower_notes, upper_notes}
-use Rattle.reader_pass.proofs.NotedLemmas.{AtTables}
-use Rattle.reader_pass.proofs.column.read.Given as goal
+use Rattle.reader_pass.specs.NotedWords.{AtTables, lower_notes, upper_notes}
+use Rattle.reader_pass.proofs.column.column.Given as goal
 
 -- the mixer stands for what the pass knows of the state in the layers so far
 abbrev pub invariant-loop-k : goal.invariant-loop-k
