@@ -1,4 +1,6 @@
+pub mod BlockTickets
+pub mod DrawnTickets
 pub mod HandLemmas
 pub mod Numbered
-pub mod StrideLemmas
+pub mod ReadBefore
 pub mod TakenLemmas

@@ -6,7 +6,7 @@ use Rattle.std.proofs.lemmas.List.Elements.{All-nil, All-push}
 use Rattle.std.proofs.lemmas.List.Quantifiers.{all_pairs_push}
 use Rattle.ctmc_semantics.specs.RoundedTables.{one_word}
 use Rattle.ctmc_semantics.specs.WordBracket.{WordBracket}
-use Rattle.mix_columns.specs.Mixed.{one_thread_words, words_of}
+use Rattle.mix_columns.specs.Mixed.{words_of}
 use Rattle.mix_columns.specs.MixLaws.{EnclosesWords}
 use Rattle.mix_columns.specs.PlanUntil.{ContainsUntil}
 use Rattle.step_core.specs.PlanLists.{PlanLists}
@@ -74,18 +74,17 @@ module _ (plan : PlanLists) (s : ℕ) (outer : WordBracket) where
     }
 
     -- the last one
-    pub watched_push : (count : ℕ) → length (watched ++ x ∷ []) ≡ count → words_of x ≡ one_thread_words plan s
-        → AreWatched plan s count outer (watched ++ x ∷ [])
-    watched_push count are exact = record {
+    pub watched_push : (count : ℕ) → length (watched ++ x ∷ []) ≡ count → AreWatched plan s count outer (words_of x) (watched ++ x ∷ [])
+    watched_push count are = record {
       count = are;
       taken = more_taken;
-      last = λ earlier w e. ap words_of (sym (same_from_push watched earlier x w e).1) ∙ exact;
+      last = λ earlier w e. ap words_of (sym (same_from_push watched earlier x w e).1);
     }
 
   -- no bracket was wanted
-  pub watched_none : (now : WordBracket) (watched : List Bracket) → length watched ≡ 0 → AreTakenSoFar plan s outer now watched
-      → AreWatched plan s 0 outer watched
-  watched_none now watched none was = record {
+  pub watched_none : (now final : WordBracket) (watched : List Bracket) → length watched ≡ 0 → AreTakenSoFar plan s outer now watched
+      → AreWatched plan s 0 outer final watched
+  watched_none now final watched none was = record {
     count = none;
     taken = was.taken;
     last = λ earlier w e. absurd (let more = ap length e ∙ length_push earlier w in omega (arith, none, more));

@@ -1,4 +1,4 @@
 pub mod Watched
 -- the functions' own steps
-pub mod Strides
+pub mod DrawnBlocks
 pub mod Hands

@@ -1,6 +1,6 @@
 // Layers that are made sure of: each block is looked at, and made final where it isn't sealed.
 
-ghost use Rattle.std.specs.Prelude.{◌≡◌, ◌-◌, ◌<◌, ◌≤◌};
+ghost use Rattle.std.specs.Prelude.{◌≡◌, ℕ, ◌+◌, ◌-◌, ◌<◌, ◌≤◌};
 ghost use Rattle.bound_grid.specs.Passes.{IsPassOf, KnowsMore, notes_of, seal_note};
 ghost use Rattle.bound_grid.specs.SealNotes.{NotesLayer, NotesAll};
 ghost use Rattle.step_core.specs.Limits.{sizes_of};
@@ -27,8 +27,8 @@ fn settle_block(board: &Board, pass: &mut Pass, k: u32, b: u32)
     finish_block(board, pass, k, b);
 }
 
-/// Makes sure of a layer: the pass notes all its seals then.
-pub(crate) fn make_sure(board: &Board, pass: &mut Pass, k: u32)
+// Makes sure of a layer: the pass notes all its seals then.
+fn make_sure(board: &Board, pass: &mut Pass, k: u32)
     requires sound { IsSoundPlan board.now.plan }
     requires pass { IsPassOf board.now pass.old }
     requires layer { k ≤ board.now.plan.layers }
@@ -41,6 +41,21 @@ pub(crate) fn make_sure(board: &Board, pass: &mut Pass, k: u32)
     }
 }
 
+/// Makes sure of the layers from one on to the one before `end`. Those before it are known to be.
+pub(crate) fn make_sure_from(board: &Board, pass: &mut Pass, from: u32, end: u32)
+    requires sound { IsSoundPlan board.now.plan }
+    requires pass { IsPassOf board.now pass.old }
+    requires order { from ≤ end }
+    requires end { end ≤ board.now.plan.layers + 1 }
+    requires known { (j : ℕ) → j < from → NotesLayer board.now.plan (notes_of pass.old) j }
+    ensures knows { KnowsMore board.now pass.old pass.new }
+    ensures sealed { (j : ℕ) → j < end → NotesLayer board.now.plan (notes_of pass.new) j }
+{
+    for k in from..end {
+        make_sure(board, pass, k);
+    }
+}
+
 /// Makes sure of every layer, whatever was done of them: the pass notes every seal then, and reads
 /// the brackets that one thread computes.
 pub fn finish(board: &Board, pass: &mut Pass)
@@ -50,7 +65,5 @@ pub fn finish(board: &Board, pass: &mut Pass)
     ensures sealed { NotesAll board.now.plan (notes_of pass.new) }
 {
     let layers = board.plan().layers;
-    for k in 0..layers + 1 {
-        make_sure(board, pass, k);
-    }
+    make_sure_from(board, pass, 0, layers + 1);
 }

@@ -1,5 +1,6 @@
 // Runs of workers and a reader on a line of 200 states in 4 blocks, with 131 layers.
 
+mod early;
 mod gates;
 mod held;
 mod line;
@@ -10,11 +11,11 @@ ghost use Rattle.step_core.specs.SoundPlan.{IsSoundPlan};
 
 use super::run;
 use bound_grid::{Board, Pass};
-use gates::{Drawn, Late, Meeting, Watching, all_unsealed};
+use gates::{Alone, Drawn, Late, Meeting, Watching, all_unsealed};
 use held::Held;
-use line::{line, short_line};
+use line::{line, short_line, single_step};
 use outside::{Gate, OpenGate};
-use reader_pass::read;
+use reader_pass::read_states;
 use std::alloc::{AllocError, Global};
 use std::sync::Mutex;
 use std::sync::atomic::{AtomicU64, Ordering};
@@ -49,6 +50,30 @@ fn two_workers_run_side_by_side(rt: HostRuntime) -> Result<(), Fail> {
     Ok(())
 }
 
+// One worker tightens every block while the other hasn't drawn yet: no block waits for a worker of
+// its own.
+#[test]
+fn blocks_are_drawn_by_tickets(rt: HostRuntime) -> Result<(), Fail> {
+    let alloc = rt.alloc();
+    let (board, pass) = Board::open(alloc, single_step(alloc)?)?;
+    let gate = Alone {
+        last: AtomicU64::new(0),
+        seen: AtomicU64::new(0),
+    };
+    let mut end = run(
+        &rt,
+        alloc,
+        &board,
+        pass,
+        2,
+        Watch { state: 0, count: 0 },
+        &gate,
+    )?;
+    assert_eq!(&rt; gate.seen.load(Ordering::SeqCst), 1);
+    assert_eq!(&rt; all_unsealed(&board, &mut end.pass), 0);
+    Ok(())
+}
+
 #[test]
 fn a_late_worker_is_helped(rt: HostRuntime) -> Result<(), Fail> {
     let alloc = rt.alloc();
@@ -61,6 +86,7 @@ fn a_late_worker_is_helped(rt: HostRuntime) -> Result<(), Fail> {
             pass: other,
         }),
         unsealed: AtomicU64::new(0),
+        second: AtomicU64::new(0),
         last: AtomicU64::new(0),
         seen: AtomicU64::new(0),
     };
@@ -74,7 +100,7 @@ fn a_late_worker_is_helped(rt: HostRuntime) -> Result<(), Fail> {
         &gate,
     )?;
     assert_eq!(&rt; gate.unsealed.load(Ordering::SeqCst), 0);
-    assert_eq!(&rt; gate.seen.load(Ordering::SeqCst), 1);
+    assert_eq!(&rt; gate.seen.load(Ordering::SeqCst), 2);
     Ok(())
 }
 
@@ -106,18 +132,19 @@ fn a_bracket_beside_the_workers_is_fresh(rt: HostRuntime) -> Result<(), Fail> {
 }
 
 // Whether the pass reads these brackets of the states.
-fn reads(board: &Board, pass: &mut Pass, brackets: &[Bracket]) -> bool
+fn reads(
+    alloc: Global,
+    board: &Board,
+    pass: &mut Pass,
+    brackets: &[Bracket],
+) -> Result<bool, AllocError>
     requires sound { IsSoundPlan board.now.plan }
     requires pass { IsPassOf board.now pass.old }
-    requires states { length board.now.plan.frame.rows ≡ 200 }
-    requires brackets { length brackets.now ≡ 200 }
 {
-    let mut same = true;
-    for s in 0..200u32 {
-        let bracket = read(board, pass, s);
-        same = same & (bracket == brackets[s as usize]);
-    }
-    same
+    let plan = board.plan();
+    let mut found = Vec::with_capacity(alloc, plan.frame.rows.len())?;
+    read_states(board, pass, &mut found);
+    Ok(found.as_slice() == brackets)
 }
 
 // Whether a run of the plan by so many workers ends with the brackets that one thread computes.
@@ -139,7 +166,7 @@ fn ends_as_one_thread<R: Threads + Sync, G: Gate>(
     let watch = Watch { state: 0, count: 1 };
     let mut end = run(rt, alloc, &board, pass, workers, watch, gate)?;
     let watched = end.watched.as_slice() == &brackets[..1];
-    Ok(watched && reads(&board, &mut end.pass, &brackets))
+    Ok(watched && reads(alloc, &board, &mut end.pass, &brackets)?)
 }
 
 #[test]

@@ -16,6 +16,9 @@ const LOOKS: u32 = 100_000_000;
 // The last layer of the line.
 const LAST: u32 = 130;
 
+// The last layer of the single step.
+const LAST_OF_STEP: u32 = 32;
+
 // Whether the count came to `wanted`.
 fn comes_to(count: &AtomicU64, wanted: u64) -> bool {
     for _ in 0..LOOKS {
@@ -84,28 +87,57 @@ impl Gate for Meeting {
     }
 }
 
-/// Holds worker 1 at its first pause until worker 0 has paused at the last layer. At each pause of
-/// worker 0 it looks at the seals of the layer before.
+/// Holds worker 0 at its first pause until worker 1 has paused at the last layer of the single step,
+/// and counts whether it saw that.
+#[derive(Drop)]
+pub(super) struct Alone {
+    pub(super) last: AtomicU64,
+    pub(super) seen: AtomicU64,
+}
+
+impl Gate for Alone {
+    fn pause(&self, worker: u32, layer: u32) {
+        if worker == 0 && layer == 1 && comes_to(&self.last, 1) {
+            self.seen.fetch_add(1, Ordering::SeqCst);
+        }
+        if worker == 1 && layer == LAST_OF_STEP {
+            self.last.fetch_add(1, Ordering::SeqCst);
+        }
+    }
+}
+
+/// Holds worker 0 at its first pause until worker 1 has paused at layer 2, and worker 1 there until
+/// worker 0 has paused at the last layer. So worker 1 is late with a block that it has drawn. Counts
+/// those that saw what they were held for.
+///
+/// At each later pause of worker 0 it looks at the seals of the layer before.
 #[derive(Drop)]
 pub(super) struct Late<'a, R: Wait> {
     pub(super) rt: &'a R,
     pub(super) held: Mutex<Held<'a>>,
     pub(super) unsealed: AtomicU64,
+    pub(super) second: AtomicU64,
     pub(super) last: AtomicU64,
     pub(super) seen: AtomicU64,
 }
 
 impl<'a, R: Wait + Sync> Gate for Late<'a, R> {
     fn pause(&self, worker: u32, layer: u32) {
-        if worker == 0 && layer > 0 {
+        if worker == 0 && layer == 1 && comes_to(&self.second, 1) {
+            self.seen.fetch_add(1, Ordering::SeqCst);
+        }
+        if worker == 0 && layer > 1 {
             let unsealed = self.held.lock(self.rt).unsealed(layer - 1);
             self.unsealed.fetch_add(unsealed, Ordering::SeqCst);
-            if layer == LAST {
-                self.last.fetch_add(1, Ordering::SeqCst);
-            }
         }
-        if worker == 1 && layer == 1 && comes_to(&self.last, 1) {
-            self.seen.fetch_add(1, Ordering::SeqCst);
+        if worker == 0 && layer == LAST {
+            self.last.fetch_add(1, Ordering::SeqCst);
+        }
+        if worker == 1 && layer == 2 {
+            self.second.fetch_add(1, Ordering::SeqCst);
+            if comes_to(&self.last, 1) {
+                self.seen.fetch_add(1, Ordering::SeqCst);
+            }
         }
     }
 }
@@ -152,5 +184,17 @@ impl Gate for Drawn {
         for _ in 0..drawn >> 58 {
             self.state.load(Ordering::SeqCst);
         }
+    }
+}
+
+/// Keeps the greatest layer at which anyone paused.
+#[derive(Drop)]
+pub(super) struct Greatest {
+    pub(super) layer: AtomicU64,
+}
+
+impl Gate for Greatest {
+    fn pause(&self, _worker: u32, layer: u32) {
+        self.layer.fetch_max(u64::from(layer), Ordering::SeqCst);
     }
 }

@@ -1,4 +1,4 @@
-// The plan of a line of states.
+// The plans of a line of states, and of a single step.
 
 ghost use Rattle.std.specs.Prelude.{◌≡◌, ◌+◌, ◌*◌, ◌≤◌, IfOk, IfSome, length};
 ghost use Rattle.step_core.specs.SoundFrame.{AreSoundSets};
@@ -47,6 +47,21 @@ fn line_within(alloc: Global, time: Decimal, bits: u32, layers: u32) -> Result<P
     match plan_of(alloc, transitions.as_bytes(), time, bits) {
         Some(plan) if plan.frame.rows.len() == 200 && plan.layers == layers => Ok(plan),
         _ => Err(Fail::from("no plan of the line")),
+    }
+}
+
+/// The plan of reaching the second of two states within the time 1, where the first goes to it with
+/// the rate 1: 32 layers of one block.
+pub(super) fn single_step(alloc: Global) -> Result<Plan, Fail>
+    ensures sound { IfOk result IsSoundPlan }
+    ensures cells { IfOk result (λ plan. (plan.layers + 1) * length plan.frame.rows ≤ 8388608) }
+    ensures states { IfOk result (λ plan. length plan.frame.rows ≡ 2) }
+    ensures layers { IfOk result (λ plan. plan.layers ≡ 32) }
+{
+    let transitions = b"STATES 2\nTRANSITIONS 1\n1 2 1\n";
+    match plan_of(alloc, transitions, Decimal { c: 1, x: 0 }, 30) {
+        Some(plan) if plan.frame.rows.len() == 2 && plan.layers == 32 => Ok(plan),
+        _ => Err(Fail::from("no plan of the single step")),
     }
 }
 

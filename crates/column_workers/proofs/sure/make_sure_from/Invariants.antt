@@ -1,7 +1,7 @@
 use Rattle.std.proofs.Common.{ℕ, ◌<◌}
 use Rattle.bound_grid.specs.Passes.{KnowsMore, notes_of}
 use Rattle.bound_grid.specs.SealNotes.{NotesLayer}
-use Rattle.column_workers.proofs.sure.finish.Given as goal
+use Rattle.column_workers.proofs.sure.make_sure_from.Given as goal
 
 abbrev pub invariant-loop-k : goal.invariant-loop-k
 invariant-loop-k l = record {
