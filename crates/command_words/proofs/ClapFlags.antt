@@ -7,7 +7,7 @@ use Rattle.clap.specs.Walk.{Text}
 use Rattle.command_words.specs.declared.setting.Setting.{Setting}
 use Rattle.command_words.specs.declared.setting.Setting.TheVariants.{Bits, Jumps, State, Watch, Workers}
 use Rattle.command_words.specs.Parts.{begins_with_hyphen, is_plain}
-use Rattle.command_words.specs.Setting.{assignment_of, name_of, word_of}
+use Rattle.command_words.specs.Setting.{assignment_of, flag_name, flag_word, name_of, word_of}
 
 -- the word is no flag of clap's, nor `--`
 pub record IsNoFlag (word : Text) : Type 0 where
@@ -37,6 +37,9 @@ name_flag Bits = record { divides = refl; long = refl }
 name_flag Jumps = record { divides = refl; long = refl }
 name_flag Watch = record { divides = refl; long = refl }
 name_flag State = record { divides = refl; long = refl }
+
+pub flag_flag : IsFlag flag_word flag_name None
+flag_flag = record { divides = refl; long = refl }
 
 pub assignment_flag : (s : Setting) (value : Text) → IsFlag (assignment_of s value) (name_of s) (Some value)
 assignment_flag Workers value = record { divides = refl; long = refl }

@@ -6,7 +6,7 @@ use Rattle.clap.specs.Walk.{Rule, arg_by_id, arg_by_index, arg_by_long}
 use Rattle.clap.specs.Simple.{Shape, built, filled, is_simple, with_index}
 use Rattle.command_words.specs.declared.setting.Setting.{Setting}
 use Rattle.command_words.specs.declared.setting.Setting.TheVariants.{Bits, Jumps, State, Watch, Workers}
-use Rattle.command_words.specs.ClapCommand.{app, model_id, model_rule, option_rule}
+use Rattle.command_words.specs.ClapCommand.{app, flag_rule, model_id, model_rule, option_rule}
 use Rattle.command_words.specs.Setting.{name_of}
 
 abbrev pub shape : Shape
@@ -15,9 +15,12 @@ shape = (built app).top
 abbrev pub rules : List Rule
 rules = shape.rules
 
--- the argument of a setting, and that of the plain words
+-- the argument of a setting, that of the flag, and that of the plain words
 abbrev pub option_arg : Setting → Rule
 option_arg s = filled (option_rule s)
+
+abbrev pub flag_arg : Rule
+flag_arg = filled flag_rule
 
 abbrev pub model_arg : Rule
 model_arg = with_index 1 (filled model_rule)

@@ -6,14 +6,16 @@ use Rattle.clap.specs.Walk.{with_default}
 use Rattle.clap.specs.Simple.{matches_of}
 use Rattle.clap.specs.Takes.{takes, walk_passes}
 use Rattle.command_words.specs.declared.setting.Setting.{Setting}
+use Rattle.command_words.specs.declared.setting.Setting.TheVariants.{Bits, Jumps, State, Watch, Workers}
 use Rattle.command_words.specs.ClapCommand.{app, model_id}
-use Rattle.command_words.specs.Parts.{Part, ReadAs, next_word, no_word, plain, plain_word, same_word, two_hyphens}
-use Rattle.command_words.specs.Setting.{name_of}
+use Rattle.command_words.specs.Parts.{Part, ReadAs, flag_alone, next_word, no_word, plain, plain_word, same_word, two_hyphens}
+use Rattle.command_words.specs.Setting.{flag_name, name_of}
+use Rattle.command_words.proofs.ClapFlagWord.{flag_leads, flag_settles, flagged}
 use Rattle.command_words.proofs.ClapFlags.{no_hyphen, plain_no_flag}
 use Rattle.command_words.proofs.ClapOptions.{assigned, assigned_settles, assignment_leads, name_leads, value_leads, valued, valued_settles}
 use Rattle.command_words.proofs.ClapPlainWords.{closed_leads, divider_leads, plain_leads, with_word, with_word_settles}
-use Rattle.command_words.proofs.ClapRows.{IsFresh, id_of, put, text_of}
-use Rattle.command_words.proofs.ClapRules.{rules, shape}
+use Rattle.command_words.proofs.ClapRows.{IsFresh, ended, id_of, put, set_text, text_of}
+use Rattle.command_words.proofs.ClapRules.{flag_arg, model_arg, option_arg, rules, shape}
 use Rattle.command_words.proofs.ClapTurns.{IsFree, Leads, Settles, at}
 
 abbrev pub put_parts : List Part → List Row → List Row
@@ -77,6 +79,10 @@ walks (same_word {s} {value} {rest} {parts} r) h waiting rows f t fresh =
     let after = put (name_of s) value rows in
     one_more (assignment_leads s value h waiting f t.passes (ap (has_row (name_of s)) t.settles ∙ fresh.0)) rest (put_parts parts after)
     (walks r (assigned s value h) idle after tt (assigned_settles s value h rows t fresh.0) fresh.1)
+walks (flag_alone {rest} {parts} r) h waiting rows f t fresh =
+    let after = put flag_name set_text rows in
+    one_more (flag_leads h waiting f t.passes (ap (has_row flag_name) t.settles ∙ fresh.0)) rest (put_parts parts after)
+    (walks r (flagged h) idle after tt (flag_settles h rows t fresh.0) fresh.1)
 walks (plain_word {word} {rest} {parts} e r) h waiting rows f t fresh =
     let after = put model_id word rows in
     one_more (plain_leads h waiting word f (plain_no_flag word e) t.passes) rest (put_parts parts after)
@@ -84,7 +90,7 @@ walks (plain_word {word} {rest} {parts} e r) h waiting rows f t fresh =
 walks (two_hyphens {rest}) h waiting rows f t fresh =
     one_more (divider_leads h waiting f) rest (put_parts (map plain rest) rows) (closed_walks rest h waiting rows t)
 
--- no argument has a default
+-- an argument without a default
 no_default : (a : Rule) (rows : List Row) → a.defaults ≡ [] → with_default rows a ≡ rows
 no_default a rows e = go (has_row a.id rows)
   where
@@ -100,8 +106,17 @@ no_defaults : (rows : List Row) (rs : List Rule) → HaveNoDefaults rs → fold 
 no_defaults rows [] none = refl
 no_defaults rows (a ∷ rs) none = ap (λ z. fold with_default z rs) (no_default a rows none.0) ∙ no_defaults rows rs none.1
 
-rules_no_defaults : HaveNoDefaults rules
-rules_no_defaults = (refl, (refl, (refl, (refl, (refl, (refl, tt))))))
+abbrev option_args : List Rule
+option_args = option_arg Workers ∷ option_arg Bits ∷ option_arg Jumps ∷ option_arg Watch ∷ option_arg State ∷ []
+
+options_no_defaults : HaveNoDefaults option_args
+options_no_defaults = (refl, (refl, (refl, (refl, (refl, tt)))))
+
+-- the flag alone has a default
+flag_default : (rows : List Row) → fold with_default rows rules ≡ ended rows
+flag_default rows =
+    ap (λ z. with_default (with_default z flag_arg) model_arg) (no_defaults rows option_args options_no_defaults)
+    ∙ no_default model_arg (with_default rows flag_arg) refl
 
 -- ---- the whole command
 
@@ -116,6 +131,6 @@ module _ (words : List Text) (parts : List Part) (read : ReadAs (drop 1 words) p
       let settles = whole_walk.settles.passes in
       rw (stopped, passes, settles) refl
 
-  pub matches_words : matches_of app words ≡ put_parts parts []
+  pub matches_words : matches_of app words ≡ ended (put_parts parts [])
   matches_words =
-      ap (λ z. fold with_default z rules) whole_walk.settles.settles ∙ no_defaults (put_parts parts []) rules rules_no_defaults
+      ap (λ z. fold with_default z rules) whole_walk.settles.settles ∙ flag_default (put_parts parts [])

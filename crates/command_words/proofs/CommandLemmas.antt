@@ -1,5 +1,5 @@
 -- The command that words are, by what the scan finds.
-use Rattle.std.proofs.Common.{◌≡◌, ◌+◌, ◌-◌, ◌≤◌, ℕ, Bool, cond, true, false, refl, sym, subst, arith, suc, List, [], ◌∷◌, length, drop, take, map, Option, Some, None, true≢false}
+use Rattle.std.proofs.Common.{◌≡◌, ◌+◌, ◌-◌, ◌≤◌, ℕ, Bool, cond, true, false, refl, sym, subst, arith, zero, suc, List, [], ◌∷◌, length, drop, take, map, Option, Some, None, true≢false}
 use Rattle.std.specs.Prelude.{is_some}
 use Rattle.std.specs.Str.{bytes_eq}
 use Rattle.std.proofs.Math.Seq.{take-length}
@@ -12,6 +12,7 @@ use Rattle.command_words.specs.declared.scan.TheConstants.Given.{NONE}
 use Rattle.command_words.specs.declared.scan.TheConstants.Seen.{NOTHING}
 use Rattle.command_words.specs.declared.setting.Setting.{Setting}
 use Rattle.command_words.specs.declared.setting.Setting.TheVariants.{Bits, Jumps, State, Watch, Workers}
+use Rattle.command_words.specs.Flag.{flag_count, times}
 use Rattle.command_words.specs.Command.{Spoken, has_rewards, kind_word, model_words, number_of, text_in}
 use Rattle.command_words.specs.Parts.{Part, plain_words, values_of}
 use Rattle.command_words.specs.Reading.{HaveParts, parts_from}
@@ -37,15 +38,32 @@ state_is_counted [] n h = omega (arith, h)
 state_is_counted (value ∷ []) n h = h.range.least
 state_is_counted (value ∷ again ∷ more) n h = absurd h
 
-options_chosen : (parts : List Part) → ((s : Setting) → MayBeGiven s false (values_of s parts))
-    → (o : Options) × ((s : Setting) → IsChosen s (values_of s parts) (number_of s o))
-options_chosen parts may = (numbers, each)
+-- the options that these parts choose
+pub record AreChosen (parts : List Part) : Type 0 where
+  pub options : Options
+  pub numbers : (s : Setting) → IsChosen s (values_of s parts) (number_of s options)
+  pub flag : flag_count parts ≡ times options.until_decided
+
+flag_chosen : (n : ℕ) → n ≤ 1 → (b : Bool) × (n ≡ times b)
+flag_chosen zero h = (false, refl)
+flag_chosen (suc zero) h = (true, refl)
+flag_chosen (suc (suc n)) h = absurd (omega (arith, h))
+
+options_chosen : (parts : List Part) → ((s : Setting) → MayBeGiven s false (values_of s parts)) → flag_count parts ≤ 1 → AreChosen parts
+options_chosen parts may once = record { options = numbers; numbers = each; flag = (flag_chosen (flag_count parts) once).1 }
   where
     of : (s : Setting) → (n : ℕ) × IsChosen s (values_of s parts) n
     of s = chosen s (values_of s parts) (may s)
 
     numbers : Options
-    numbers = record { workers = (of Workers).0; bits = (of Bits).0; jumps = (of Jumps).0; watch = (of Watch).0; state = (of State).0 - 1 }
+    numbers = record {
+      workers = (of Workers).0;
+      bits = (of Bits).0;
+      jumps = (of Jumps).0;
+      watch = (of Watch).0;
+      state = (of State).0 - 1;
+      until_decided = (flag_chosen (flag_count parts) once).0;
+    }
 
     each : (s : Setting) → IsChosen s (values_of s parts) (number_of s numbers)
     each Workers = (of Workers).1
@@ -119,23 +137,37 @@ opening_parts words h = go (parts_from Open (drop 1 words)) refl h
     go None e h = absurd h
     go (Some parts) e h =
         let m = model_named (plain_words parts) h.files in
-        let o = options_chosen parts (λ s. subst (λ b. MayBeGiven s b (values_of s parts)) (none_given s) (h.options s)) in (
-          record { kind = m.kind; tra = m.tra; lab = m.lab; rew = m.rew; options = o.0 },
-          record { parts = parts; read = parts_read (drop 1 words) parts e; model = m.is; rewards = m.rewards; options = o.1 },
+        let once : flag_count parts ≤ 1 = omega (arith, h.flag) in
+        let o = options_chosen parts (λ s. subst (λ b. MayBeGiven s b (values_of s parts)) (none_given s) (h.options s)) once in (
+          record { kind = m.kind; tra = m.tra; lab = m.lab; rew = m.rew; options = o.options },
+          record {
+            parts = parts;
+            read = parts_read (drop 1 words) parts e;
+            model = m.is;
+            rewards = m.rewards;
+            options = o.numbers;
+            flag = o.flag;
+          },
         )
 
+pub once_at_most : (b : Bool) → times b ≤ 1
+once_at_most true = omega arith
+once_at_most false = omega arith
+
 completed : (parts : List Part) (c : Spoken) → plain_words parts ≡ model_words c → is_some c.rew ≡ has_rewards c.kind
-    → ((s : Setting) → IsChosen s (values_of s parts) (number_of s c.options)) → Completes NOTHING parts
-completed parts c model rewards options = record {
+    → ((s : Setting) → IsChosen s (values_of s parts) (number_of s c.options))
+    → flag_count parts ≡ times c.options.until_decided → Completes NOTHING parts
+completed parts c model rewards options given_once = record {
   files = subst (NameFiles None) (sym model) (names_files c.kind c.tra c.lab c.rew rewards);
   options = λ s.
       subst (λ b. MayBeGiven s b (values_of s parts)) (sym (none_given s))
       (may_be_given s (values_of s parts) (number_of s c.options) (options s));
+  flag = omega (arith, given_once, once_at_most c.options.until_decided);
 }
 
 pub parts_of_command : (words : List Text) → AreCommand words → HaveParts (Completes NOTHING) (parts_from Open (drop 1 words))
 parts_of_command words (c, is) =
-    subst (HaveParts (Completes NOTHING)) (sym (read_parts is.read)) (completed is.parts c is.model is.rewards is.options)
+    subst (HaveParts (Completes NOTHING)) (sym (read_parts is.read)) (completed is.parts c is.model is.rewards is.options is.flag)
 
 -- ---- the words after the program's name
 

@@ -8,6 +8,7 @@ use Rattle.command_words.specs.declared.scan.TheConstants.Given.{NONE}
 use Rattle.command_words.specs.declared.scan.TheConstants.Seen.{NOTHING}
 use Rattle.command_words.specs.declared.setting.Setting.{Setting}
 use Rattle.command_words.specs.declared.setting.Setting.TheVariants.{Bits, Jumps, State, Watch, Workers}
+use Rattle.command_words.specs.Flag.{flag_count}
 use Rattle.command_words.specs.Laws.{WordsAreCommandOrNot}
 use Rattle.command_words.specs.Parts.{Part, plain_words, values_of}
 use Rattle.command_words.specs.Reading.{HaveParts, parts_from}
@@ -86,7 +87,10 @@ parts_or_not parts =
       | inr none ↦ inr (λ c. none c.files)
       | inl files ↦ elim (all_or_not (λ s. MayBeGiven s (is_given NONE s) (values_of s parts)) (λ s. given_or_not s)) [
         | inr none ↦ inr (λ c. none c.options)
-        | inl options ↦ inl (record { files = files; options = options })
+        | inl options ↦ elim (cases_lt 1 (flag_count parts)) [
+          | inl twice ↦ inr (λ c. omega (arith, twice, c.flag))
+          | inr once ↦ inl (record { files = files; options = options; flag = omega (arith, once) })
+        ]
       ]
     ]
   where

@@ -1,5 +1,5 @@
 -- Options that aren't given have their defaults.
-use Rattle.std.proofs.Common.{◌-◌, [], refl}
+use Rattle.std.proofs.Common.{◌-◌, false, [], refl}
 use Rattle.command_words.specs.declared.command.Options.{Options}
 use Rattle.command_words.specs.declared.setting.Setting.{Setting}
 use Rattle.command_words.specs.declared.setting.Setting.TheVariants.{Bits, Jumps, State, Watch, Workers}
@@ -14,6 +14,7 @@ default_options = record {
   jumps = (numbers_of Jumps).default;
   watch = (numbers_of Watch).default;
   state = (numbers_of State).default - 1;
+  until_decided = false;
 }
 
 pub default_is_chosen : (s : Setting) → IsChosen s [] (number_of s default_options)

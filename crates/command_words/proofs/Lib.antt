@@ -1,13 +1,16 @@
 pub mod Openings
 pub mod ReadWords
+pub mod FlagPlaces
 pub mod ClapRules
 pub mod ClapRows
 pub mod ClapFlags
 pub mod ClapTurns
 pub mod ClapPlainWords
 pub mod ClapOptions
+pub mod ClapFlagWord
 pub mod ClapWalk
 pub mod ClapValues
+pub mod FlagValue
 pub mod OneCommand
 pub mod FoundCommand
 pub mod HeldCommand

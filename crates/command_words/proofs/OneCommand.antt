@@ -1,11 +1,12 @@
 -- A list of words is one command at most.
-use Rattle.std.proofs.Common.{◌≡◌, ◌∙◌, ℕ, refl, sym, ap, subst, arith, drop, List, [], ◌∷◌, Option, Some, None, true≢false, lit≤}
+use Rattle.std.proofs.Common.{◌≡◌, ◌∙◌, ℕ, Bool, true, false, refl, sym, ap, subst, arith, drop, List, [], ◌∷◌, Option, Some, None, true≢false, lit≤}
 use Rattle.std.specs.Prelude.{is_some}
 use Rattle.command_words.specs.declared.command.Kind.{Kind}
 use Rattle.command_words.specs.declared.command.Kind.TheVariants.{Cmrm, Ctmc}
 use Rattle.command_words.specs.declared.command.Options.{Options}
 use Rattle.command_words.specs.declared.setting.Setting.{Setting}
 use Rattle.command_words.specs.declared.setting.Setting.TheVariants.{Bits, Jumps, State, Watch, Workers}
+use Rattle.command_words.specs.Flag.{flag_count, times}
 use Rattle.command_words.specs.Command.{has_rewards, model_words, number_of, text_in}
 use Rattle.command_words.specs.Laws.{OptionsAreInRange, WordsSayOneCommand}
 use Rattle.command_words.specs.Parts.{plain_words, values_of}
@@ -29,15 +30,21 @@ one_file None (Some b) e = cc
 one_file (Some a) None e = cc
 one_file (Some a) (Some b) e = cc
 
--- options are known by what their values write
-pub one_options : (o p : Options) → ((s : Setting) → number_of s o ≡ number_of s p) → o ≡ p
-one_options o p same =
+one_flag : (a b : Bool) → times a ≡ times b → a ≡ b
+one_flag true true e = refl
+one_flag true false e = absurd (omega (arith, e))
+one_flag false true e = absurd (omega (arith, e))
+one_flag false false e = refl
+
+-- options are known by what their values write, and by the flag
+pub one_options : (o p : Options) → ((s : Setting) → number_of s o ≡ number_of s p) → o.until_decided ≡ p.until_decided → o ≡ p
+one_options o p same flag =
     let workers : o.workers ≡ p.workers = same Workers in
     let bits : o.bits ≡ p.bits = same Bits in
     let jumps : o.jumps ≡ p.jumps = same Jumps in
     let watch : o.watch ≡ p.watch = same Watch in
     let state : o.state ≡ p.state = omega (arith, same State) in
-    λ i. record { workers = workers i; bits = bits i; jumps = jumps i; watch = watch i; state = state i }
+    λ i. record { workers = workers i; bits = bits i; jumps = jumps i; watch = watch i; state = state i; until_decided = flag i }
 
 pub one_command : WordsSayOneCommand
 one_command words c d p q =
@@ -51,7 +58,8 @@ one_command words c d p q =
     let options : c.options ≡ d.options =
     one_options c.options d.options
     (λ s. one_number s (values_of s q.parts) (number_of s c.options) (number_of s d.options)
-    (subst (λ ps. IsChosen s (values_of s ps) (number_of s c.options)) parts (p.options s)) (q.options s)) in
+    (subst (λ ps. IsChosen s (values_of s ps) (number_of s c.options)) parts (p.options s)) (q.options s))
+    (one_flag c.options.until_decided d.options.until_decided (sym p.flag ∙ ap flag_count parts ∙ q.flag)) in
     λ i. record { kind = kind i; tra = tra i; lab = lab i; rew = rew i; options = options i }
 
 default_in_range : (s : Setting) → IsInRange s ((numbers_of s).default)

@@ -10,13 +10,14 @@ use Rattle.command_words.specs.declared.place.Place.TheVariants.{Closed, Open, V
 use Rattle.command_words.specs.declared.setting.Setting.{Setting}
 use Rattle.command_words.specs.declared.setting.TheConstants.{SETTINGS}
 use Rattle.command_words.specs.OneWord.{Step, assignment_step, ends, goes_to, is_equals, named_by, open_step, option_step}
-use Rattle.command_words.specs.Parts.{given, is_plain, plain}
-use Rattle.command_words.specs.Setting.{Text, assignment_of, word_of}
+use Rattle.command_words.specs.Parts.{flag, given, is_plain, plain}
+use Rattle.command_words.specs.Setting.{Text, assignment_of, flag_word, word_of}
 
 -- the word has this step
 pub data Opens : Text → Step → Type 0 where
   divider : Opens (codes "--") (goes_to Closed)
   plain_one : (word : Text) → is_plain word ≡ true → Opens word (ends (plain word) Open)
+  flag_one : Opens flag_word (ends flag Open)
   assignment : (s : Setting) (value : Text) → Opens (assignment_of s value) (ends (given s value) Open)
   option_name : (s : Setting) → Opens (word_of s) (goes_to (Value s))
 
@@ -71,18 +72,28 @@ module _ (word : Text) where
   by_equals true q = by_assignment (named_by (before_first is_equals word)) refl q
   by_equals false q = by_name (named_by word) refl
 
+  by_flag : (b : Bool) → bytes_eq word flag_word ≡ b
+      → IsOpening word
+      (if b then Some (ends flag Open)
+      else if list_any is_equals word then assignment_step (named_by (before_first is_equals word)) (after_first is_equals word)
+      else option_step (named_by word))
+  by_flag true q = subst (λ w. Opens w (ends flag Open)) (sym ((bytes_eq-Decides word flag_word).0 q)) flag_one
+  by_flag false q = by_equals (list_any is_equals word) refl
+
   by_hyphen : (b : Bool) → is_plain word ≡ b
       → IsOpening word
       (if b then Some (ends (plain word) Open)
+      else if bytes_eq word flag_word then Some (ends flag Open)
       else if list_any is_equals word then assignment_step (named_by (before_first is_equals word)) (after_first is_equals word)
       else option_step (named_by word))
   by_hyphen true q = plain_one word q
-  by_hyphen false q = by_equals (list_any is_equals word) refl
+  by_hyphen false q = by_flag (bytes_eq word flag_word) refl
 
   by_divider : (b : Bool) → bytes_eq word (codes "--") ≡ b
       → IsOpening word
       (if b then Some (goes_to Closed)
       else if is_plain word then Some (ends (plain word) Open)
+      else if bytes_eq word flag_word then Some (ends flag Open)
       else if list_any is_equals word then assignment_step (named_by (before_first is_equals word)) (after_first is_equals word)
       else option_step (named_by word))
   by_divider true q = subst (λ w. Opens w (goes_to Closed)) (sym ((bytes_eq-Decides word (codes "--")).0 q)) divider

@@ -1,5 +1,5 @@
 -- Words are read as parts exactly where the places lead through them.
-use Rattle.std.proofs.Common.{◌≡◌, ◌≢◌, ◌∙◌, Bool, cond, true, false, refl, sym, ap, subst, List, [], ◌∷◌, Option, Some, None, map, codes, true≢false}
+use Rattle.std.proofs.Common.{◌≡◌, ◌≢◌, ◌∙◌, Bool, cond, true, false, refl, sym, ap, subst, List, [], ◌∷◌, ◌++◌, Option, Some, None, map, codes, true≢false}
 use Rattle.std.specs.Prelude.{option_and_then}
 use Rattle.std.specs.Option.{option_map}
 use Rattle.std.specs.Str.{bytes_eq}
@@ -8,31 +8,34 @@ use Rattle.command_words.specs.declared.place.Place.{Place}
 use Rattle.command_words.specs.declared.place.Place.TheVariants.{Closed, Open, Value}
 use Rattle.command_words.specs.declared.setting.Setting.{Setting}
 use Rattle.command_words.specs.declared.setting.Setting.TheVariants.{Bits, Jumps, State, Watch, Workers}
-use Rattle.command_words.specs.Laws.{AreRefused, LastWordIsNoOption, NoOtherWordIsRead, NoValueBeginsWithHyphen, WordsAreReadOneWay}
+use Rattle.command_words.specs.Laws.{AreRefused, FlagHasNoValue, LastWordIsNoOption, NoOtherWordIsRead, NoValueBeginsWithHyphen, WordsAreReadOneWay}
 use Rattle.command_words.specs.OneWord.{Step, ends, goes_to, open_step, step_of}
-use Rattle.command_words.specs.Parts.{Part, ReadAs, begins_with_hyphen, given, is_plain, next_word, no_word, plain, plain_word, same_word, two_hyphens}
+use Rattle.command_words.specs.Parts.{Part, ReadAs, begins_with_hyphen, flag, flag_alone, given, is_plain, next_word, no_word, plain, plain_word, same_word, two_hyphens}
 use Rattle.command_words.specs.Reading.{parts_after, parts_from}
-use Rattle.command_words.specs.Setting.{Text, assignment_of, word_of}
-use Rattle.command_words.proofs.Openings.{Opens, assignment, divider, opens, option_name, plain_one}
+use Rattle.command_words.specs.Setting.{Text, assignment_of, flag_word, word_of}
+use Rattle.command_words.proofs.Openings.{Opens, assignment, divider, flag_one, opens, option_name, plain_one}
 
 -- ---- what is read has its parts
 
-option_opens : (s : Setting) → open_step (word_of s) ≡ Some (goes_to (Value s))
+pub option_opens : (s : Setting) → open_step (word_of s) ≡ Some (goes_to (Value s))
 option_opens Workers = refl
 option_opens Bits = refl
 option_opens Jumps = refl
 option_opens Watch = refl
 option_opens State = refl
 
-assignment_opens : (s : Setting) (value : Text) → open_step (assignment_of s value) ≡ Some (ends (given s value) Open)
+pub assignment_opens : (s : Setting) (value : Text) → open_step (assignment_of s value) ≡ Some (ends (given s value) Open)
 assignment_opens Workers value = refl
 assignment_opens Bits value = refl
 assignment_opens Jumps value = refl
 assignment_opens Watch value = refl
 assignment_opens State value = refl
 
+pub flag_opens : open_step flag_word ≡ Some (ends flag Open)
+flag_opens = refl
+
 -- a plain word isn't `--`
-plain_is_no_divider : (word : Text) → is_plain word ≡ true → bytes_eq word (codes "--") ≡ false
+pub plain_is_no_divider : (word : Text) → is_plain word ≡ true → bytes_eq word (codes "--") ≡ false
 plain_is_no_divider word e = go (bytes_eq word (codes "--")) refl
   where
     go : (b : Bool) → bytes_eq word (codes "--") ≡ b → b ≡ false
@@ -46,7 +49,7 @@ closed_words [] = refl
 closed_words (word ∷ rest) = ap (option_map (λ parts. plain word ∷ parts)) (closed_words rest)
 
 -- the parts after a step
-abbrev later : List Text → Option Step → Option (List Part)
+abbrev pub later : List Text → Option Step → Option (List Part)
 later rest = option_and_then (λ (step : Step). option_map (parts_after step.part) (parts_from step.place rest))
 
 pub read_parts : {words : List Text} {parts : List Part} → ReadAs words parts → parts_from Open words ≡ Some parts
@@ -55,6 +58,7 @@ read_parts (next_word {s} {value} {rest} {parts} e r) =
     let h = read_parts r in ap (later (value ∷ rest)) (option_opens s) ∙ rw (e, h) refl
 read_parts (same_word {s} {value} {rest} {parts} r) =
     let h = read_parts r in ap (later rest) (assignment_opens s value) ∙ rw h refl
+read_parts (flag_alone {rest} {parts} r) = let h = read_parts r in ap (later rest) flag_opens ∙ rw h refl
 read_parts (plain_word {word} {rest} {parts} e r) =
     let d = plain_is_no_divider word e in let h = read_parts r in rw (d, e, h) refl
 read_parts (two_hyphens {rest}) = let e = closed_words rest in rw e refl
@@ -71,6 +75,7 @@ opened : {word : Text} {step : Step} → Opens word step → (rest : List Text) 
     → ReadAs (word ∷ rest) (parts_after step.part parts)
 opened divider rest parts h = subst (λ ps. ReadAs (codes "--" ∷ rest) ps) (sym h) two_hyphens
 opened (plain_one word q) rest parts h = plain_word q h
+opened flag_one rest parts h = flag_alone h
 opened (assignment s value) rest parts h = same_word h
 opened (option_name s) rest parts h = h
 
@@ -138,13 +143,21 @@ pub no_value_begins_with_hyphen : NoValueBeginsWithHyphen
 no_value_begins_with_hyphen s value rest e =
     none_read (word_of s ∷ value ∷ rest) (ap (later (value ∷ rest)) (option_opens s) ∙ rw e refl)
 
+flag_value_opens : (value : Text) → open_step (flag_word ++ 61 ∷ value) ≡ None
+flag_value_opens value = refl
+
+pub flag_has_no_value : FlagHasNoValue
+flag_has_no_value value rest = none_read ((flag_word ++ 61 ∷ value) ∷ rest) (ap (later rest) (flag_value_opens value))
+
 other_word : {word : Text} {rest : List Text} {parts : List Part} → ReadAs (word ∷ rest) parts → is_plain word ≡ false
-    → word ≢ codes "--" → ((s : Setting) → word ≢ word_of s) → ((s : Setting) (value : Text) → word ≢ assignment_of s value)
-    → ⊥
-other_word (next_word {s} h r) e no_hyphens no_option no_assignment = no_option s refl
-other_word (same_word {s} {value} r) e no_hyphens no_option no_assignment = no_assignment s value refl
-other_word (plain_word h r) e no_hyphens no_option no_assignment = true≢false (sym h ∙ e)
-other_word two_hyphens e no_hyphens no_option no_assignment = no_hyphens refl
+    → word ≢ codes "--" → word ≢ flag_word → ((s : Setting) → word ≢ word_of s)
+    → ((s : Setting) (value : Text) → word ≢ assignment_of s value) → ⊥
+other_word (next_word {s} h r) e no_hyphens no_flag no_option no_assignment = no_option s refl
+other_word (same_word {s} {value} r) e no_hyphens no_flag no_option no_assignment = no_assignment s value refl
+other_word (flag_alone r) e no_hyphens no_flag no_option no_assignment = no_flag refl
+other_word (plain_word h r) e no_hyphens no_flag no_option no_assignment = true≢false (sym h ∙ e)
+other_word two_hyphens e no_hyphens no_flag no_option no_assignment = no_hyphens refl
 
 pub no_other_word_is_read : NoOtherWordIsRead
-no_other_word_is_read word rest e no_hyphens no_option no_assignment parts r = other_word r e no_hyphens no_option no_assignment
+no_other_word_is_read word rest e no_hyphens no_flag no_option no_assignment parts r =
+    other_word r e no_hyphens no_flag no_option no_assignment

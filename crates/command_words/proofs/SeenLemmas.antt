@@ -1,5 +1,5 @@
 -- What one more part does to what was seen.
-use Rattle.std.proofs.Common.{◌≡◌, ◌∙◌, ◌↔◌, ◌||◌, ◌++◌, ℕ, Bool, true, false, refl, sym, ap, subst, List, [], ◌∷◌, length, Some}
+use Rattle.std.proofs.Common.{◌≡◌, ◌∙◌, ◌↔◌, ◌||◌, ◌++◌, ℕ, Bool, true, false, refl, sym, ap, subst, arith, List, [], ◌∷◌, length, Some}
 use Rattle.std.specs.Prelude.{if◌then◌else◌}
 use Rattle.std.proofs.lemmas.Slice.Eq.{bytes_eq-Decides}
 use Rattle.command_words.specs.declared.scan.Given.{Given}
@@ -7,7 +7,8 @@ use Rattle.command_words.specs.declared.scan.Seen.{Seen}
 use Rattle.command_words.specs.declared.setting.Setting.{Setting}
 use Rattle.command_words.specs.declared.setting.Setting.TheVariants.{Bits, Jumps, State, Watch, Workers}
 use Rattle.command_words.specs.OneWord.{named_by}
-use Rattle.command_words.specs.Parts.{Part, given, is_same, plain, plain_words, values_of}
+use Rattle.command_words.specs.Parts.{Part, flag, given, is_same, plain, plain_words, values_of}
+use Rattle.command_words.specs.Flag.{times}
 use Rattle.command_words.specs.Scan.{Completes, HasNumber, MayBeGiven, NameFiles, is_given}
 use Rattle.command_words.specs.Setting.{Text, name_of, word_of}
 use Rattle.command_words.proofs.ClapRules.{same_name}
@@ -32,13 +33,28 @@ module _ (seen : Seen) (word : Text) where
   pub plain_goes_on : (n : ℕ) → ((words : List Text) → NameFiles seen.missing (word ∷ words) ↔ (length words ≡ n)) → (parts : List Part)
       → Completes seen (plain word ∷ parts) ↔ Completes (record seen { missing = Some n }) parts
   plain_goes_on n e parts = (
-    λ c. record { files = (e (plain_words parts)).0 c.files; options = c.options },
-    λ c. record { files = (e (plain_words parts)).1 c.files; options = c.options },
+    λ c. record { files = (e (plain_words parts)).0 c.files; options = c.options; flag = omega (arith, c.flag) },
+    λ c. record { files = (e (plain_words parts)).1 c.files; options = c.options; flag = omega (arith, c.flag) },
   )
 
   pub plain_stops : ((words : List Text) → ¬ NameFiles seen.missing (word ∷ words)) → (parts : List Part)
       → ¬ Completes seen (plain word ∷ parts)
   plain_stops e parts c = e (plain_words parts) c.files
+
+-- ---- the flag
+
+module _ (seen : Seen) (parts : List Part) where
+  pub flag_goes_on : seen.until_decided ≡ false → Completes seen (flag ∷ parts) ↔ Completes (record seen { until_decided = true }) parts
+  flag_goes_on unset =
+      let none : times seen.until_decided ≡ 0 = ap times unset in (
+        λ c. record { files = c.files; options = c.options; flag = omega (arith, c.flag, none) },
+        λ c. record { files = c.files; options = c.options; flag = omega (arith, c.flag, none) },
+      )
+
+  pub flag_stops : seen.until_decided ≡ true → ¬ Completes seen (flag ∷ parts)
+  flag_stops set c =
+      let once : times seen.until_decided ≡ 1 = ap times set in
+      absurd (omega (arith, c.flag, once))
 
 -- ---- an option with its value
 
@@ -87,6 +103,6 @@ module _ (seen : Seen) (t : Setting) (value : Text) where
 
     pub given_goes_on : (parts : List Part) → Completes seen (given t value ∷ parts) ↔ Completes (record seen { given = after }) parts
     given_goes_on parts = (
-      λ c. record { files = c.files; options = λ s. (each_option parts s).0 (c.options s) },
-      λ c. record { files = c.files; options = λ s. (each_option parts s).1 (c.options s) },
+      λ c. record { files = c.files; options = λ s. (each_option parts s).0 (c.options s); flag = omega (arith, c.flag) },
+      λ c. record { files = c.files; options = λ s. (each_option parts s).1 (c.options s); flag = omega (arith, c.flag) },
     )

@@ -1,9 +1,9 @@
 -- What the laws say.
-use Rattle.std.specs.Prelude.{◌≡◌, ◌≢◌, ◌+◌, true, false, ◌⊎◌, List, [], ◌∷◌, codes}
+use Rattle.std.specs.Prelude.{◌≡◌, ◌≢◌, ◌+◌, Bool, true, false, ◌⊎◌, List, [], ◌∷◌, ◌++◌, codes}
 use Rattle.command_words.specs.declared.setting.Setting.{Setting}
 use Rattle.command_words.specs.declared.setting.Setting.TheVariants.{Workers, Bits, Jumps, Watch, State}
 use Rattle.command_words.specs.declared.command.Options.{Options}
-use Rattle.command_words.specs.Setting.{Text, IsInRange, assignment_of, word_of}
+use Rattle.command_words.specs.Setting.{Text, IsInRange, assignment_of, flag_word, word_of}
 use Rattle.command_words.specs.Parts.{Part, ReadAs, begins_with_hyphen, is_plain}
 use Rattle.command_words.specs.Command.{Spoken}
 use Rattle.command_words.specs.Words.{AreCommand, WordsSay}
@@ -25,10 +25,15 @@ abbrev pub NoValueBeginsWithHyphen : Type 0
 NoValueBeginsWithHyphen =
     (s : Setting) (value : Text) (rest : List Text) → begins_with_hyphen value ≡ true → AreRefused (word_of s ∷ value ∷ rest)
 
--- a word that begins with `-` and is longer than that is `--` or has the word of an option, else it is refused
+-- the flag has no value in its word
+abbrev pub FlagHasNoValue : Type 0
+FlagHasNoValue = (value : Text) (rest : List Text) → AreRefused ((flag_word ++ 61 ∷ value) ∷ rest)
+
+-- a word that begins with `-` and is longer than that is `--`, the flag's or has the word of an option, else it is refused
 abbrev pub NoOtherWordIsRead : Type 0
 NoOtherWordIsRead =
-    (word : Text) (rest : List Text) → is_plain word ≡ false → word ≢ codes "--" → ((s : Setting) → word ≢ word_of s)
+    (word : Text) (rest : List Text) → is_plain word ≡ false → word ≢ codes "--" → word ≢ flag_word
+    → ((s : Setting) → word ≢ word_of s)
     → ((s : Setting) (value : Text) → word ≢ assignment_of s value)
     → AreRefused (word ∷ rest)
 
@@ -51,3 +56,28 @@ pub record AreInRange (options : Options) : Type 0 where
 -- the options of a command are in their ranges
 abbrev pub OptionsAreInRange : Type 0
 OptionsAreInRange = (words : List Text) (c : Spoken) → WordsSay words c → AreInRange c.options
+
+-- the command with the flag
+abbrev pub with_flag : Spoken → Spoken
+with_flag c = record c { options = record c.options { until_decided = true } }
+
+-- none of the words is `--`
+abbrev pub LackTwoHyphens : List Text → Type 0
+LackTwoHyphens [] = Unit {0}
+LackTwoHyphens (word ∷ words) = (word ≢ codes "--") × LackTwoHyphens words
+
+-- after these words an option may stand: none waits for its value, and none of the words is `--`
+abbrev pub AreOpen : List Text → Type 0
+AreOpen words = ((parts : List Part) × ReadAs words parts) × LackTwoHyphens words
+
+-- what words with one more flag say, by whether the command has the flag without it
+abbrev pub SayWithFlag : Bool → List Text → Spoken → Type 0
+SayWithFlag false words c = WordsSay words (with_flag c)
+SayWithFlag true words c = ¬ AreCommand words
+
+-- The flag may stand anywhere before `--`, but for an option's value: with it the words say the same command, and that it has the flag;
+-- where it has the flag already, they say none.
+abbrev pub FlagStandsAnywhere : Type 0
+FlagStandsAnywhere =
+    (name : Text) (before rest : List Text) (c : Spoken) → AreOpen before → WordsSay (name ∷ (before ++ rest)) c
+    → SayWithFlag c.options.until_decided (name ∷ (before ++ flag_word ∷ rest)) c

@@ -1,5 +1,6 @@
 pub mod Setting
 pub mod Parts
+pub mod Flag
 pub mod Command
 pub mod Words
 pub mod Laws

@@ -6,8 +6,8 @@ use Rattle.command_words.specs.declared.setting.Setting.{Setting}
 use Rattle.command_words.specs.declared.setting.TheConstants.{SETTINGS}
 use Rattle.command_words.specs.declared.place.Place.{Place}
 use Rattle.command_words.specs.declared.place.Place.TheVariants.{Open, Value, Closed}
-use Rattle.command_words.specs.Setting.{Text, word_of}
-use Rattle.command_words.specs.Parts.{Part, begins_with_hyphen, given, is_plain, plain}
+use Rattle.command_words.specs.Setting.{Text, flag_word, word_of}
+use Rattle.command_words.specs.Parts.{Part, begins_with_hyphen, flag, given, is_plain, plain}
 
 -- what one more word does: the place after it, and the part that it ends, if any
 pub record Step : Type 0 where
@@ -36,11 +36,12 @@ option_step = option_map (λ s. goes_to (Value s))
 abbrev pub assignment_step : Option Setting → Text → Option Step
 assignment_step named value = option_map (λ s. ends (given s value) Open) named
 
--- before `--`, where no option waits for its value: `--` itself, a plain word, an option with its value, or an option
+-- before `--`, where no option waits for its value: `--` itself, a plain word, the flag, an option with its value, or an option
 abbrev pub open_step : Text → Option Step
 open_step word =
     if bytes_eq word (codes "--") then Some (goes_to Closed)
     else if is_plain word then Some (ends (plain word) Open)
+    else if bytes_eq word flag_word then Some (ends flag Open)
     else if list_any is_equals word then assignment_step (named_by (before_first is_equals word)) (after_first is_equals word)
     else option_step (named_by word)
 

@@ -1,5 +1,5 @@
 -- What the scan has still to find, where it has seen some of the parts.
-use Rattle.std.specs.Prelude.{◌≡◌, ◌↔◌, ℕ, Bool, true, false, List, [], ◌∷◌, length, Option, Some, None, if◌then◌else◌}
+use Rattle.std.specs.Prelude.{◌≡◌, ◌↔◌, ◌+◌, ◌≤◌, ℕ, Bool, true, false, List, [], ◌∷◌, length, Option, Some, None, if◌then◌else◌}
 use Rattle.std.specs.Str.{bytes_eq}
 use Rattle.command_words.specs.declared.setting.Setting.{Setting}
 use Rattle.command_words.specs.declared.setting.Setting.TheVariants.{Workers, Bits, Jumps, Watch, State}
@@ -9,6 +9,7 @@ use Rattle.command_words.specs.declared.scan.Seen.{Seen}
 use Rattle.command_words.specs.Setting.{Text, IsValue}
 use Rattle.command_words.specs.Command.{kind_word}
 use Rattle.command_words.specs.Parts.{Part, plain_words, values_of}
+use Rattle.command_words.specs.Flag.{flag_count, times}
 use Rattle.command_words.specs.Reading.{parts_after}
 
 -- how many names of files follow the word of a kind
@@ -47,6 +48,8 @@ MayBeGiven s false (value ∷ again ∷ more) = ⊥
 pub record Completes (seen : Seen) (parts : List Part) : Type 0 where
   pub files : NameFiles seen.missing (plain_words parts)
   pub options : (s : Setting) → MayBeGiven s (is_given seen.given s) (values_of s parts)
+  -- the flag is given once at most, in all
+  pub flag : times seen.until_decided + flag_count parts ≤ 1
 
 -- what is seen after one more part, if any: the same parts make a command after it as after both; nothing where none do
 abbrev pub IsSeenAfter : Seen → Option Part → Option Seen → Type 0

@@ -1,6 +1,7 @@
--- The options of the command line.
+-- The options of the command line, and its flag.
 use Rattle.std.specs.Prelude.{◌≡◌, ℕ, ◌≤◌, List, [], ◌∷◌, ◌++◌}
 use Rattle.text_lines.specs.WholeNumber.{IsWholeNumber}
+use Rattle.command_words.specs.declared.flag.TheConstants.{UNTIL_DECIDED}
 use Rattle.command_words.specs.declared.setting.Setting.{Setting}
 use Rattle.command_words.specs.declared.setting.Setting.TheVariants.{Workers, Bits, Jumps, Watch, State}
 use Rattle.command_words.specs.declared.setting.Numbers.{Numbers}
@@ -25,6 +26,13 @@ word_of s = 45 ∷ 45 ∷ name_of s
 -- the option's word, `=`, which is the byte 61, and a value, in one word
 abbrev pub assignment_of : Setting → Text → Text
 assignment_of s value = word_of s ++ 61 ∷ value
+
+-- what the flag is called, and its word
+abbrev pub flag_name : Text
+flag_name = UNTIL_DECIDED.now
+
+abbrev pub flag_word : Text
+flag_word = 45 ∷ 45 ∷ flag_name
 
 -- the least and the greatest number that the option may have, and the one that it has where it isn't given
 abbrev pub numbers_of : Setting → Numbers

@@ -27,6 +27,8 @@ pub struct Options {
     pub watch: u32,
     /// The watched state, counted from 0. On the command line it is counted from 1.
     pub state: u32,
+    /// Whether a formula's run ends as soon as the verdict of each state is known.
+    pub until_decided: bool,
 }
 
 /// The kind of the model, the names of its files, and the options. A `Cmrm` has a file of rewards,

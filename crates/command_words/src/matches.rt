@@ -7,10 +7,11 @@ ghost use Rattle.clap.specs.Simple.{app_of, with_rule};
 ghost use Rattle.command_words.specs.Setting.{IsChosen, name_of};
 ghost use Rattle.command_words.specs.Command.{Spoken, spoken_by, text_in};
 ghost use Rattle.command_words.specs.Words.{AreCommand};
-ghost use Rattle.command_words.specs.ClapCommand.{app, model_rule, named_rule};
+ghost use Rattle.command_words.specs.ClapCommand.{app, flag_rule, model_rule, named_rule, option_app};
 ghost use Rattle.command_words.specs.Matches.{HoldsCommand, HoldsCommandOf, HoldsSome};
 
 use crate::command::{CMRM, Command, Kind, Options};
+use crate::flag::UNTIL_DECIDED;
 use crate::setting::Setting;
 use clap::error::ErrorKind;
 use clap::{Arg, ArgAction, ArgMatches};
@@ -29,17 +30,25 @@ pub(crate) fn find_matches(alloc: Global, words: &[String]) -> Result<ArgMatches
     command_of_clap(alloc)?.try_get_matches_from(words)
 }
 
-// An option for each setting, and plain words.
+// An option for each setting, the flag, and plain words.
 fn command_of_clap<'a>(alloc: Global) -> Result<clap::Command<'a>, AllocError>
     ensures { IfOk result (λ c. app_of c ≡ app) }
+{
+    let command = command_of_options(alloc)?;
+    let command = with_flag(alloc, command)?;
+    command.arg(model_arg(alloc))
+}
+
+// An option for each setting.
+fn command_of_options<'a>(alloc: Global) -> Result<clap::Command<'a>, AllocError>
+    ensures { IfOk result (λ c. app_of c ≡ option_app) }
 {
     let command = clap::Command::new(alloc, "mrmc_any").disable_help_flag(true);
     let command = with_option(alloc, command, Setting::Workers.name())?;
     let command = with_option(alloc, command, Setting::Bits.name())?;
     let command = with_option(alloc, command, Setting::Jumps.name())?;
     let command = with_option(alloc, command, Setting::Watch.name())?;
-    let command = with_option(alloc, command, Setting::State.name())?;
-    command.arg(model_arg(alloc))
+    with_option(alloc, command, Setting::State.name())
 }
 
 // The command with an option of this name.
@@ -52,6 +61,15 @@ fn with_option<'a>(
 {
     let option = Arg::new(alloc, name).long(name).action(ArgAction::Set);
     command.arg(option)
+}
+
+fn with_flag<'a>(alloc: Global, command: clap::Command<'a>) -> Result<clap::Command<'a>, AllocError>
+    ensures { IfOk result (λ c. app_of c ≡ with_rule (app_of command.entry) flag_rule) }
+{
+    let flag = Arg::new(alloc, UNTIL_DECIDED)
+        .long(UNTIL_DECIDED)
+        .action(ArgAction::SetTrue);
+    command.arg(flag)
 }
 
 fn model_arg<'a>(alloc: Global) -> Arg<'a>
@@ -95,6 +113,7 @@ fn options(matches: &ArgMatches<'_>) -> Options
         jumps: number(matches, Setting::Jumps),
         watch: number(matches, Setting::Watch),
         state: number(matches, Setting::State) - 1,
+        until_decided: matches.get_flag(UNTIL_DECIDED),
     }
 }
 

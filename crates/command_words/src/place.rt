@@ -5,6 +5,7 @@ ghost use Rattle.command_words.specs.OneWord.{ends, goes_to, open_step, step_of}
 ghost use Rattle.command_words.specs.Reading.{parts_at_end};
 ghost use Rattle.command_words.specs.Steps.{part_in, step_in};
 
+use crate::flag::is_flag;
 use crate::setting::Setting;
 
 // Where the words are read: before `--`, at an option's value, or after `--`.
@@ -15,10 +16,11 @@ pub(crate) enum Place {
     Closed,
 }
 
-// What the words say: an option with its value, or a plain word.
+// What the words say: an option with its value, the flag, or a plain word.
 #[derive(Clone, Copy)]
 pub(crate) enum Part<'a> {
     Given(Setting, &'a str),
+    Flag,
     Plain(&'a str),
 }
 
@@ -64,6 +66,9 @@ fn open_step(word: &str) -> Option<Step<'_>>
     }
     if is_plain(word) {
         return Some(ending(Part::Plain(word), Place::Open));
+    }
+    if is_flag(word) {
+        return Some(ending(Part::Flag, Place::Open));
     }
     match word.split_once('=') {
         Some((name, value)) => {

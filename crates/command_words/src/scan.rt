@@ -1,7 +1,7 @@
 // Whether words are a command.
 ghost use Rattle.std.specs.Prelude.{◌≡◌, ◌↔◌, ◌||◌, List, ◌∷◌, None, IsTrue, MatchOption, length, map, option_map, string_bytes};
 ghost use Rattle.command_words.specs.Setting.{Text};
-ghost use Rattle.command_words.specs.Parts.{given, is_same, plain};
+ghost use Rattle.command_words.specs.Parts.{flag, given, is_same, plain};
 ghost use Rattle.command_words.specs.Words.{AreCommand};
 ghost use Rattle.command_words.specs.Reading.{HaveParts, parts_from};
 ghost use Rattle.command_words.specs.Scan.{Completes, IsSeenAfter, NameFiles, files_after, is_given};
@@ -42,17 +42,19 @@ fn complete(words: &[String]) -> bool
 }
 
 // What the words so far have: how many names of files are missing, None before the word of a kind,
-// and which options are given.
+// which options are given, and whether the flag is.
 #[derive(Clone, Copy)]
 struct Seen {
     missing: Option<u32>,
     given: Given,
+    until_decided: bool,
 }
 
 impl Seen {
     const NOTHING: Seen = Seen {
         missing: None,
         given: Given::NONE,
+        until_decided: false,
     };
 
     // What is seen after one more part, or None where there is no command with these parts.
@@ -62,6 +64,7 @@ impl Seen {
         match part {
             None => Some(self),
             Some(Part::Plain(word)) => self.after_plain(word),
+            Some(Part::Flag) => self.after_flag(),
             Some(Part::Given(setting, value)) => self.after_given(setting, value),
         }
     }
@@ -72,6 +75,18 @@ impl Seen {
         let missing = missing_after(self.missing, word)?;
         Some(Seen {
             missing: Some(missing),
+            ..self
+        })
+    }
+
+    fn after_flag(self) -> Option<Seen>
+        ensures { IsSeenAfter self (Some flag) result }
+    {
+        if self.until_decided {
+            return None;
+        }
+        Some(Seen {
+            until_decided: true,
             ..self
         })
     }

@@ -14,6 +14,15 @@ fn options(numbers: [u32; 5]) -> Options {
         jumps: numbers[2],
         watch: numbers[3],
         state: numbers[4],
+        until_decided: false,
+    }
+}
+
+// The same options with the flag.
+fn with_flag(options: Options) -> Options {
+    Options {
+        until_decided: true,
+        ..options
     }
 }
 
@@ -31,21 +40,31 @@ fn is_refused(alloc: Global, words: &[&str]) -> Result<bool, AllocError> {
     Ok(read(alloc, words)? == Err(WordsFault::Usage))
 }
 
-// Whether the words say `ctmc` and these names, with these numbers.
-fn says(
+// Whether the words say `ctmc` and these names, with these options.
+fn says_with(
     alloc: Global,
     words: &[&str],
     names: (&str, &str),
-    numbers: [u32; 5],
+    options: Options,
 ) -> Result<bool, AllocError> {
     let command = Command {
         kind: Kind::Ctmc,
         tra: String::from_str(alloc, names.0)?,
         lab: String::from_str(alloc, names.1)?,
         rew: None,
-        options: options(numbers),
+        options,
     };
     Ok(read(alloc, words)? == Ok(command))
+}
+
+// Whether the words say `ctmc` and these names, with these numbers and without the flag.
+fn says(
+    alloc: Global,
+    words: &[&str],
+    names: (&str, &str),
+    numbers: [u32; 5],
+) -> Result<bool, AllocError> {
+    says_with(alloc, words, names, options(numbers))
 }
 
 // These words after the names of two files.
@@ -60,24 +79,35 @@ fn with_files<'a>(alloc: Global, options: &[&'a str]) -> Result<Vec<&'a str>, Al
     Ok(words)
 }
 
-#[test]
-fn a_model_with_rewards_has_three_files(rt: HostRuntime) -> Result<(), Fail> {
-    let alloc = rt.alloc();
-    let command = Command {
+// The command of a model with rewards.
+fn with_rewards(alloc: Global, options: Options) -> Result<Command, AllocError> {
+    Ok(Command {
         kind: Kind::Cmrm,
         tra: String::from_str(alloc, "a.tra")?,
         lab: String::from_str(alloc, "a.lab")?,
         rew: Some(String::from_str(alloc, "a.rew")?),
-        options: options(DEFAULTS),
-    };
+        options,
+    })
+}
+
+#[test]
+fn a_model_with_rewards_has_three_files(rt: HostRuntime) -> Result<(), Fail> {
+    let alloc = rt.alloc();
     assert_eq!(rt;
         read(alloc, &["mrmc_any", "cmrm", "a.tra", "a.lab", "a.rew"])?,
-        Ok(command)
+        Ok(with_rewards(alloc, options(DEFAULTS))?)
+    );
+    assert_eq!(rt;
+        read(
+            alloc,
+            &["", "cmrm", "a.tra", "a.lab", "--until-decided", "a.rew"]
+        )?,
+        Ok(with_rewards(alloc, with_flag(options(DEFAULTS)))?)
     );
     Ok(())
 }
 
-const NAMED: [(&[&str], (&str, &str)); 15] = [
+const NAMED: [(&[&str], (&str, &str)); 17] = [
     (&["mrmc_any", "ctmc", "a.tra", "a.lab"], ("a.tra", "a.lab")),
     (&["mrmc_any", "ctmc", "-", "-"], ("-", "-")),
     (&["mrmc_any", "ctmc", "", "b"], ("", "b")),
@@ -101,6 +131,11 @@ const NAMED: [(&[&str], (&str, &str)); 15] = [
     (
         &["mrmc_any", "--workers=4", "--", "ctmc", "-x", ""],
         ("-x", ""),
+    ),
+    (&["--until-decided", "ctmc", "a", "b"], ("a", "b")),
+    (
+        &["mrmc_any", "ctmc", "a", "--", "--until-decided"],
+        ("a", "--until-decided"),
     ),
 ];
 
@@ -197,9 +232,60 @@ fn all_options_may_be_given(rt: HostRuntime) -> Result<(), Fail> {
     Ok(())
 }
 
+const FLAGGED: [&[&str]; 7] = [
+    &["mrmc_any", "--until-decided", "ctmc", "a", "b"],
+    &["mrmc_any", "ctmc", "--until-decided", "a", "b"],
+    &["mrmc_any", "ctmc", "a", "--until-decided", "b"],
+    &["mrmc_any", "ctmc", "a", "b", "--until-decided"],
+    &["mrmc_any", "--until-decided", "--", "ctmc", "a", "b"],
+    &["mrmc_any", "ctmc", "a", "--until-decided", "--", "b"],
+    &["mrmc_any", "ctmc", "a", "b", "--until-decided", "--"],
+];
+
+#[test]
+fn the_flag_may_stand_anywhere_before_two_hyphens(rt: HostRuntime) -> Result<(), Fail> {
+    let alloc = rt.alloc();
+    let flagged = with_flag(options(DEFAULTS));
+    for words in FLAGGED {
+        assert!(rt;
+            says_with(alloc, words, ("a", "b"), flagged)?,
+            "at {words:?}"
+        );
+    }
+    let name_behind = [
+        "mrmc_any",
+        "ctmc",
+        "--until-decided",
+        "a",
+        "--",
+        "--until-decided",
+    ];
+    assert!(rt; says_with(alloc, &name_behind, ("a", "--until-decided"), flagged)?);
+    Ok(())
+}
+
+#[test]
+fn the_flag_changes_no_option(rt: HostRuntime) -> Result<(), Fail> {
+    let alloc = rt.alloc();
+    for (option, value, numbers) in NUMBERED {
+        let flagged = with_flag(options(numbers));
+        let before = with_files(alloc, &["--until-decided", option, value])?;
+        assert!(rt;
+            says_with(alloc, &before, ("a", "b"), flagged)?,
+            "at {before:?}"
+        );
+        let behind = with_files(alloc, &[option, value, "--until-decided"])?;
+        assert!(rt;
+            says_with(alloc, &behind, ("a", "b"), flagged)?,
+            "at {behind:?}"
+        );
+    }
+    Ok(())
+}
+
 const NO_WORD: &[&str] = &[];
 
-const NO_MODEL: [&[&str]; 16] = [
+const NO_MODEL: [&[&str]; 20] = [
     NO_WORD,
     &["mrmc_any"],
     &["ctmc", "a", "b"],
@@ -216,6 +302,10 @@ const NO_MODEL: [&[&str]; 16] = [
     &["mrmc_any", "", "a", "b"],
     &["mrmc_any", "a", "ctmc", "b"],
     &["mrmc_any", "--", "--workers=4", "ctmc", "a", "b"],
+    &["mrmc_any", "--until-decided"],
+    &["mrmc_any", "ctmc", "a", "--until-decided"],
+    &["mrmc_any", "--", "--until-decided", "ctmc", "a", "b"],
+    &["mrmc_any", "ctmc", "a", "b", "--", "--until-decided"],
 ];
 
 #[test]
@@ -227,7 +317,7 @@ fn words_that_are_no_model_are_refused(rt: HostRuntime) -> Result<(), Fail> {
     Ok(())
 }
 
-const NO_OPTIONS: [&str; 21] = [
+const NO_OPTIONS: [&str; 34] = [
     "--help",
     "-h",
     "--version",
@@ -249,6 +339,19 @@ const NO_OPTIONS: [&str; 21] = [
     "--help=4",
     "--tra=a",
     "--model=a",
+    "--u",
+    "--until",
+    "--until-",
+    "--until-decide",
+    "--until-decided-",
+    "--until_decided",
+    "--Until-decided",
+    "-until-decided",
+    "---until-decided",
+    "--until-decided ",
+    "--until-decided=",
+    "--until-decided=x",
+    "--until-decided=true",
 ];
 
 #[test]
@@ -326,6 +429,30 @@ const NOT_GIVEN_ONCE: [&[&str]; 12] = [
 fn an_option_without_a_value_or_given_twice_is_refused(rt: HostRuntime) -> Result<(), Fail> {
     let alloc = rt.alloc();
     for options in NOT_GIVEN_ONCE {
+        let words = with_files(alloc, options)?;
+        assert!(rt; is_refused(alloc, &words)?, "at {options:?}");
+    }
+    Ok(())
+}
+
+const FLAG_NOT_ALONE: [&[&str]; 11] = [
+    &["--until-decided", "--until-decided"],
+    &["--until-decided", "--until-decided", "--"],
+    &["--until-decided", "--bits=8", "--until-decided"],
+    &["--until-decided", "--until-decided", "--until-decided"],
+    &["--until-decided", "--until-decided=x"],
+    &["--until-decided", "x"],
+    &["--until-decided", "=x"],
+    &["--bits", "--until-decided"],
+    &["--bits", "--until-decided", "8"],
+    &["--bits=--until-decided"],
+    &["--until-decided", "--bits"],
+];
+
+#[test]
+fn the_flag_with_a_value_or_given_twice_is_refused(rt: HostRuntime) -> Result<(), Fail> {
+    let alloc = rt.alloc();
+    for options in FLAG_NOT_ALONE {
         let words = with_files(alloc, options)?;
         assert!(rt; is_refused(alloc, &words)?, "at {options:?}");
     }

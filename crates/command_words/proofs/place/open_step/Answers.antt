@@ -5,7 +5,7 @@ use Rattle.command_words.specs.declared.place.Place.TheVariants.{Value}
 use Rattle.command_words.specs.declared.setting.Setting.{Setting}
 use Rattle.command_words.specs.OneWord.{is_equals, named_by, open_step}
 use Rattle.command_words.specs.Parts.{is_plain}
-use Rattle.command_words.specs.Setting.{Text}
+use Rattle.command_words.specs.Setting.{Text, flag_word}
 use Rattle.command_words.proofs.place.open_step.Goals as goal
 
 -- no `=` is in a word that has none before its end
@@ -24,15 +24,17 @@ lacks_equals (c ∷ cs) e = go (is_equals c) refl (lacks_equals cs)
 
 -- an option's word waits for its value
 option_opens : (word : Text) (s : Setting) → bytes_eq word (codes "--") ≡ false → is_plain word ≡ false
-    → list_any is_equals word ≡ false → named_by word ≡ Some s → open_step word ≡ Some (record { place = Value s; part = None })
-option_opens word s d f l n = rw (d, f, l, n) refl
+    → bytes_eq word flag_word ≡ false → list_any is_equals word ≡ false → named_by word ≡ Some s
+    → open_step word ≡ Some (record { place = Value s; part = None })
+option_opens word s d p f l n = rw (d, p, f, l, n) refl
 
 pub returns-in_ok-setting-in-None : goal.returns-in_ok-setting-in-None
 returns-in_ok-setting-in-None c =
     let lacks : list_any is_equals c.args.word.now ≡ false =
     lacks_equals c.args.word.now (c.in-None.ensures.byte (omega arith) (λ w o h. h)) in
     let divides : bytes_eq c.args.word.now (codes "--") ≡ false = search rules in
-    let flag : is_plain c.args.word.now ≡ false = search rules in
+    let plain : is_plain c.args.word.now ≡ false = search rules in
+    let flag : bytes_eq c.args.word.now flag_word ≡ false = search rules in
     let named : named_by c.args.word.now ≡ Some c.in_ok-setting-in-None.setting = search rules in
     let going = c.going_to-in-None.ensures in
-    ap (λ s. Some s) going ∙ sym (option_opens c.args.word.now c.in_ok-setting-in-None.setting divides flag lacks named)
+    ap (λ s. Some s) going ∙ sym (option_opens c.args.word.now c.in_ok-setting-in-None.setting divides plain flag lacks named)
