@@ -31,9 +31,9 @@ refuted_not_undecided : Refuted ≡ Undecided → ⊥
 refuted_not_undecided e = cc
 
 -- the verdict says exactly which of two facts holds that exclude each other
-record Says (verdict : Verdict) (S R : Type 0) : Type 0 where
-  satisfied : (verdict ≡ Satisfied) ↔ S
-  refuted : (verdict ≡ Refuted) ↔ R
+pub record Says (verdict : Verdict) (S R : Type 0) : Type 0 where
+  pub satisfied : (verdict ≡ Satisfied) ↔ S
+  pub refuted : (verdict ≡ Refuted) ↔ R
 
 tests_say : (s r : Bool) (S R : Type 0) → IsTrue s ↔ S → IsTrue r ↔ R → (S → R → ⊥) → Says (decided_verdict s r) S R
 tests_say true r S R by_s by_r apart = record {
@@ -49,7 +49,7 @@ tests_say false false S R by_s by_r apart = record {
   refuted = ((λ e. absurd (refuted_not_undecided (sym e))), (λ h. absurd (false≢true (by_r.1 h))));
 }
 
-bracket_says : (by : Comparison) (b : Bracket) (q : Fraction) → (BracketSatisfies by b q → BracketRefutes by b q → ⊥)
+pub bracket_says : (by : Comparison) (b : Bracket) (q : Fraction) → (BracketSatisfies by b q → BracketRefutes by b q → ⊥)
     → Says (bracket_verdict by b q) (BracketSatisfies by b q) (BracketRefutes by b q)
 bracket_says by b q apart =
     tests_say (meets_threshold by (last_to_meet by b) q) (meets_threshold (opposite by) (last_to_meet (opposite by) b) q)

@@ -1,22 +1,15 @@
 -- The answer to a formula is exact.
-use Rattle.std.proofs.Common.{◌≡◌, ◌≢◌, ℕ, ◌+◌, ◌<◌, ◌≤◌, ◌↔◌, Bool, true, false, IsTrue, List, [], map, Some, None, IsSomeAnd, refl, sym, ap, subst, ◌∙◌, arith}
+use Rattle.std.proofs.Common.{◌≡◌, ◌≢◌, ℕ, ◌<◌, ◌≤◌, ◌↔◌, Bool, true, false, IsTrue, List, [], map, Option, Some, None, IsSomeAnd, refl, sym, ap, subst, subst₂, ◌∙◌, arith}
 use Rattle.std.proofs.lemmas.Bool.{false≢true}
 use Rattle.std.proofs.lemmas.List.FromFn.{get_or-map-range_with_len, length-map-range_with_len}
-use Rattle.ctmc_semantics.specs.Bracket.{ContainsFrom, ContainsLimit}
-use Rattle.ctmc_semantics.specs.Horizon.{horizon}
 use Rattle.ctmc_semantics.specs.Sets.{holds_at}
+use Rattle.ctmc_semantics.specs.WordBracket.{WordBracket}
 use Rattle.command_words.specs.declared.command.Options.{Options}
-use Rattle.csl_semantics.specs.Dual.{dual, reward_load}
-use Rattle.csl_semantics.proofs.Unique.{same_rewards}
 use Rattle.ctmc_semantics.specs.Fraction.{decimal_fraction}
-use Rattle.reward_dual.proofs.Accepted.{accepted}
-use Rattle.nested_verdict.specs.ExactState.{IsExactUntil}
-use Rattle.nested_verdict.specs.UntilAnswer.{state_words, time_words, words_answer}
-use Rattle.nested_verdict.proofs.RewardBound.{reward_load_positive, stays_out}
-use Rattle.csl_semantics.specs.Meaning.{HoldsOverBoth, IsSat, SequenceMeets, comparison_of, load_of, reach_values, reward_values, time_values}
+use Rattle.nested_verdict.specs.UntilAnswer.{first_answers, state_words}
+use Rattle.csl_semantics.specs.Meaning.{IsSat, comparison_of}
 use Rattle.csl_syntax.specs.Tree.{Tree, truth, falsehood, label, negation, conjunction, disjunction, next, until}
 use Rattle.csl_syntax.specs.declared.formula.Bound.{Bound}
-use Rattle.csl_syntax.specs.declared.formula.Bound.TheVariants.{Unbounded, Time, Reward}
 use Rattle.csl_syntax.specs.declared.formula.Op.{Op}
 use Rattle.decimal_text.specs.DecimalNumber.{DecimalNumber}
 use Rattle.model_core.specs.Model.{LabelledChain}
@@ -24,22 +17,19 @@ use Rattle.report.specs.Answer.{AnswerLists, truth_verdict}
 use Rattle.report.specs.declared.answer.Printed.{Printed}
 use Rattle.report.specs.declared.answer.Verdict.{Verdict}
 use Rattle.report.specs.declared.answer.Verdict.TheVariants.{Undecided}
-use Rattle.nested_verdict.specs.ExactAnswer.{IsSo, AreSo, IsDecided, ForEach, ForOperand, AreNearLast, AreNearReach, IsOutOfReach, ShowsUntil, IsExactAnswer, unwatched}
+use Rattle.nested_verdict.specs.ExactAnswer.{IsSo, AreSo, IsDecided, ForOperand, IsExactAnswer, unwatched}
 use Rattle.nested_verdict.specs.FormulaAnswer.{first_of, first_refusal, formula_answer, verdicts_answer, shown_answer, next_states, until_states, truth_verdicts}
-use Rattle.nested_verdict.specs.ThreeValues.{may_list, opposites, both, either, verdicts_know}
-use Rattle.nested_verdict.specs.UntilPlan.{bound_refusal, dual_by, last_jumps, load_by}
+use Rattle.nested_verdict.specs.ThreeValues.{opposites, both, either, verdicts_know}
+use Rattle.nested_verdict.specs.UntilPlan.{bound_refusal, last_jumps}
 use Rattle.nested_verdict.specs.UnwatchedAnswer.{unwatched_answer}
-use Rattle.nested_verdict.specs.WatchedBrackets.{AreTakenOf, IsWatched}
+use Rattle.nested_verdict.specs.WatchedBrackets.{IsWatched}
+use Rattle.nested_verdict.proofs.ExactBounds.{StandInUntil, computed_stand, is_shown, shown_exact}
 use Rattle.nested_verdict.proofs.ExactNext.{next_are_so, next_shows}
-use Rattle.nested_verdict.proofs.ExactUntil.{load_exact, power_of_ten, reach_exact}
-use Rattle.nested_verdict.proofs.ShownUntil.{until_are_so, until_shows}
-use Rattle.nested_verdict.proofs.FormulaAnswers.{formula_unwatched, inside_same, none_of, refusal_same}
+use Rattle.nested_verdict.proofs.FormulaAnswers.{answer_same, formula_unwatched, none_of, refusal_same}
 use Rattle.nested_verdict.proofs.OperatorsSo.{both_are_so, either_are_so, opposites_so}
 use Rattle.nested_verdict.proofs.Places.{place_here}
-use Rattle.nested_verdict.proofs.PlanCells.{few}
 use Rattle.nested_verdict.proofs.Unwatched.{inside, inside_watched}
 use Rattle.nested_verdict.proofs.WatchedLemmas.{answer_with, whole_verdicts, filled, filled_are}
-use Rattle.nested_verdict.proofs.Widening.{from_widens, limit_widens}
 
 -- ---- a formula without operators
 truth_so : (x holds : Bool) → IsTrue x ↔ IsTrue holds → IsSo x (truth_verdict holds)
@@ -106,7 +96,7 @@ module _ (over : LabelledChain) (options : Options) where
 
   -- the verdicts of operands as they are computed
   of_one : {X : Type 0} (make : List Verdict → X) (f : Tree) → make (formula_answer over options f).verdicts ≡ make (of f)
-  of_one make f = ap (λ (a : AnswerLists). make a.verdicts) (sym (inside_same over options f))
+  of_one make f = ap (λ (a : AnswerLists). make a.verdicts) (sym (answer_same over options 0 f))
 
   of_two : {X : Type 0} (make : List Verdict → List Verdict → X) (f g : Tree)
       → make (formula_answer over options f).verdicts (formula_answer over options g).verdicts
@@ -166,99 +156,28 @@ module _ (over : LabelledChain) (options : Options) where
 
   -- ---- an until
   module _ (op : Op) (q : DecimalNumber) (f g : Tree) (left : IsExactInside f) (right : IsExactInside g) (few_bits : options.bits ≤ 48)
-      (state : options.state < over.chain.states) where
-    abbrev due : Bound → List Printed → AnswerLists
-    due bound watched = shown_answer (Some (last_jumps over options bound)) watched (until_states over options op q bound (of f) (of g))
+      (state : options.state < over.chain.states) (bound : Bound) (unrefused : bound_refusal over options bound ≡ None)
+      (answer : AnswerLists) where
+    abbrev last : Option ℕ
+    last = Some (last_jumps over options bound)
 
-    abbrev states : Bound → List Printed
-    states bound = map (λ a. a.bracket) (until_states over options op q bound (of f) (of g))
+    -- by words in the place of those that are computed
+    until_by_words : (words : ℕ → WordBracket) → StandInUntil over options op q f g (of f) (of g) bound words
+        → unwatched_answer answer
+        ≡ shown_answer last [] (first_answers words (comparison_of op) (decimal_fraction q.c q.x) over.chain.states)
+        → IsWatched options answer → IsExactAnswer over options (until op q f bound g) answer
+    until_by_words words stand e w =
+        let shown =
+        shown_exact over options op q f g (of f) (of g) (inside_so f left) (inside_so g right) few_bits state words answer bound unrefused
+        stand (is_shown over options op q f g (of f) (of g) bound words answer e w) in
+        (shown.0, for_operand f left _ (for_operand g right _ shown.1))
 
-    -- an answer is what is computed, and the brackets of the watched state
-    record IsDue (bound : Bound) (answer : AnswerLists) : Type 0 where
-      watched : List Printed
-      taken : AreTakenOf options (states bound) watched
-      is : answer ≡ due bound watched
-
-    is_due : (bound : Bound) (answer : AnswerLists) → unwatched_answer answer ≡ formula_answer over options (until op q f bound g)
-        → IsWatched options answer → IsDue bound answer
-    is_due bound answer e w =
-        let last = Some (last_jumps over options bound) in
-        let verdicts = (due bound []).verdicts in
-        let found =
-        filled answer verdicts last (states bound)
-        (e ∙ of_two (λ vs ws. shown_answer last [] (until_states over options op q bound vs ws)) f g) in
-        record {
-          watched = found.watched;
-          taken = filled_are options answer verdicts last (states bound) w found;
-          is = found.is;
-        }
-
-    until_exact : (bound : Bound) → bound_refusal over options bound ≡ None → (answer : AnswerLists) → IsDue bound answer
+    until_exact : unwatched_answer answer ≡ formula_answer over options (until op q f bound g) → IsWatched options answer
         → IsExactAnswer over options (until op q f bound g) answer
-    until_exact Unbounded unrefused answer d =
-        let exact = reach_exact over options op q f g (of f) (of g) (inside_so f left) (inside_so g right) in
-        subst (IsExactAnswer over options (until op q f Unbounded g)) (sym d.is) (
-          until_are_so over options op q Unbounded f g (of f) (of g) (reach_values over) (λ b x. ContainsLimit b options.jumps x)
-              (AreNearReach over options (of f) (of g)) state (λ x. limit_widens options.jumps x) exact (λ xs stands. stands) d.watched,
-          for_operand f left _ (for_operand g right _
-              (until_shows over options op q Unbounded f g (of f) (of g) (reach_values over) (λ b x. ContainsLimit b options.jumps x)
-              (AreNearReach over options (of f) (of g)) state (λ x. limit_widens options.jumps x) exact (λ xs stands. stands) d.watched d.taken)),
-        )
-    until_exact (Time t) unrefused answer d =
-        let load = load_of over t in
-        let last = horizon load options.bits in
-        let short = (few last over.chain.states unrefused).0 in
-        let exact =
-        load_exact over options op q f g (of f) (of g) (inside_so f left) (inside_so g right) over.chain refl load
-        (power_of_ten (over.rate_decimals + t.x)) few_bits short (λ s h. h) in
-        subst (IsExactAnswer over options (until op q f (Time t) g)) (sym d.is) (
-          until_are_so over options op q (Time t) f g (of f) (of g) (time_values over t) (λ b x. ContainsFrom b last x)
-              (AreNearLast last options.bits (time_values over t) (of f) (of g)) state (λ x. from_widens last x) exact (λ xs stands. stands)
-              d.watched,
-          for_operand f left _ (for_operand g right _
-              (until_shows over options op q (Time t) f g (of f) (of g) (time_values over t) (λ b x. ContainsFrom b last x)
-              (AreNearLast last options.bits (time_values over t) (of f) (of g)) state (λ x. from_widens last x) exact (λ xs stands. stands)
-              d.watched d.taken)),
-        )
-    until_exact (Reward r) unrefused answer d =
-        let accept = accepted over options.bits r unrefused in
-        let earns = accept.earns in
-        let chain = dual over.chain earns.rewards.reward in
-        let load = reward_load over earns.rewards r in
-        let last = horizon load options.bits in
-        let values = reward_values over earns.rewards r in
-        let short = (few last over.chain.states accept.plan).0 in
-        let near = AreNearLast last options.bits values (of f) (of g) in
-        let by = comparison_of op in
-        let limit = decimal_fraction q.c q.x in
-        let sets = verdicts_know (of f) (of g) in
-        let exact_dual =
-        load_exact over options op q f g (of f) (of g) (inside_so f left) (inside_so g right) chain refl load
-        (reward_load_positive over earns r) few_bits short
-        (λ s h. stays_out over.chain earns.rewards.reward (holds_at (may_list (of f))) (holds_at (may_list (of g))) s h) in
-        let exact : (s : ℕ) → s < over.chain.states
-        → IsExactUntil by (ForEach over f g values s) (λ b. ForEach over f g values s (λ x. ContainsFrom b last x)) (near s)
-        (IsTrue (sets.goal_must s)) (IsOutOfReach over.chain sets.live_may sets.goal_may s) limit
-        (words_answer by (state_words over options (Reward r) sets s) limit) =
-        λ s l.
-        subst (λ o. IsExactUntil by (ForEach over f g values s) (λ b. ForEach over f g values s (λ x. ContainsFrom b last x)) (near s)
-        (IsTrue (sets.goal_must s)) (IsOutOfReach over.chain sets.live_may sets.goal_may s) limit
-        (words_answer by (time_words (dual_by over o) (load_by over r o) options.bits sets s) limit)) (sym earns.are) (exact_dual s l) in
-        let means : (xs : List Bool) → IsSat over (until op q f (Reward r) g) xs
-        → HoldsOverBoth over.chain.states (IsSat over f) (IsSat over g) (λ y z s. SequenceMeets op q (values y z s)) xs =
-        λ xs stands. same_rewards over op q r f g xs stands.0 earns stands.1 in
-        let shows =
-        until_shows over options op q (Reward r) f g (of f) (of g) values (λ b x. ContainsFrom b last x) near state (λ x. from_widens last x)
-        exact means d.watched d.taken in
-        subst (IsExactAnswer over options (until op q f (Reward r) g)) (sym d.is) (
-          until_are_so over options op q (Reward r) f g (of f) (of g) values (λ b x. ContainsFrom b last x) near state
-              (λ x. from_widens last x) exact means d.watched,
-          for_operand f left _ (for_operand g right _ (
-            earns,
-            subst (λ k. ShowsUntil over options f g sets by k values (λ b x. ContainsFrom b last x) near limit (due (Reward r) d.watched))
-                (ap (λ o. horizon (load_by over r o) options.bits) earns.are) shows,
-          )),
-        )
+    until_exact e w =
+        until_by_words (state_words over options bound (verdicts_know (of f) (of g)))
+        (computed_stand over options op q f g (of f) (of g) bound)
+        (e ∙ of_two (λ vs ws. shown_answer last [] (until_states over options op q bound vs ws)) f g) w
 
 -- ---- every formula that is answered
 pub formula_exact : (over : LabelledChain) (options : Options) (f : Tree) (answer : AnswerLists) → options.bits ≤ 48 → options.state < over.chain.states → first_refusal over options f ≡ None
@@ -271,32 +190,56 @@ formula_exact over options falsehood answer few_bits state unrefused e w =
 formula_exact over options (label j) answer few_bits state unrefused e w =
     truths_exact over (label j) (over.has j) (λ xs stands s l. stands.exact s l) answer e
 formula_exact over options (negation f) answer few_bits state unrefused e w =
-    negation_exact over options f (formula_exact over (unwatched options) f (inside over options f) few_bits state (refusal_same over options f ∙ unrefused)
+    negation_exact over options f (formula_exact over (unwatched options) f (inside over options f) few_bits state (refusal_same over options 0 f ∙ unrefused)
     (formula_unwatched over (unwatched options) f) (inside_watched over options f)) answer e
 formula_exact over options (conjunction f g) answer few_bits state unrefused e w =
     let none = none_of (first_refusal over options f) (first_refusal over options g) unrefused in
-    conjunction_exact over options f g (formula_exact over (unwatched options) f (inside over options f) few_bits state (refusal_same over options f ∙ none.0)
+    conjunction_exact over options f g (formula_exact over (unwatched options) f (inside over options f) few_bits state (refusal_same over options 0 f ∙ none.0)
     (formula_unwatched over (unwatched options) f) (inside_watched over options f))
-    (formula_exact over (unwatched options) g (inside over options g) few_bits state (refusal_same over options g ∙ none.1)
+    (formula_exact over (unwatched options) g (inside over options g) few_bits state (refusal_same over options 0 g ∙ none.1)
     (formula_unwatched over (unwatched options) g) (inside_watched over options g)) answer e
 formula_exact over options (disjunction f g) answer few_bits state unrefused e w =
     let none = none_of (first_refusal over options f) (first_refusal over options g) unrefused in
-    disjunction_exact over options f g (formula_exact over (unwatched options) f (inside over options f) few_bits state (refusal_same over options f ∙ none.0)
+    disjunction_exact over options f g (formula_exact over (unwatched options) f (inside over options f) few_bits state (refusal_same over options 0 f ∙ none.0)
     (formula_unwatched over (unwatched options) f) (inside_watched over options f))
-    (formula_exact over (unwatched options) g (inside over options g) few_bits state (refusal_same over options g ∙ none.1)
+    (formula_exact over (unwatched options) g (inside over options g) few_bits state (refusal_same over options 0 g ∙ none.1)
     (formula_unwatched over (unwatched options) g) (inside_watched over options g)) answer e
 formula_exact over options (next op q f) answer few_bits state unrefused e w =
-    next_exact over options op q f (formula_exact over (unwatched options) f (inside over options f) few_bits state (refusal_same over options f ∙ unrefused)
+    next_exact over options op q f (formula_exact over (unwatched options) f (inside over options f) few_bits state (refusal_same over options 0 f ∙ unrefused)
     (formula_unwatched over (unwatched options) f) (inside_watched over options f)) answer e w
 formula_exact over options (until op q f bound g) answer few_bits state unrefused e w =
     let operands = first_of (first_refusal over options f) (first_refusal over options g) in
     let none = none_of operands (bound_refusal over options bound) unrefused in
     let both = none_of (first_refusal over options f) (first_refusal over options g) none.0 in
     let left =
-    formula_exact over (unwatched options) f (inside over options f) few_bits state (refusal_same over options f ∙ both.0)
+    formula_exact over (unwatched options) f (inside over options f) few_bits state (refusal_same over options 0 f ∙ both.0)
     (formula_unwatched over (unwatched options) f) (inside_watched over options f) in
     let right =
-    formula_exact over (unwatched options) g (inside over options g) few_bits state (refusal_same over options g ∙ both.1)
+    formula_exact over (unwatched options) g (inside over options g) few_bits state (refusal_same over options 0 g ∙ both.1)
     (formula_unwatched over (unwatched options) g) (inside_watched over options g) in
-    until_exact over options op q f g left right few_bits state bound none.1 answer
-    (is_due over options op q f g left right few_bits state bound answer e w)
+    until_exact over options op q f g left right few_bits state bound none.1 answer e w
+
+-- ---- an operand is exact as it is computed
+module _ (over : LabelledChain) (options : Options) (few_bits : options.bits ≤ 48) (state : options.state < over.chain.states) where
+  inside_exact : (f : Tree) → first_refusal over options f ≡ None → IsExactInside over options f
+  inside_exact f unrefused =
+      formula_exact over (unwatched options) f (inside over options f) few_bits state (refusal_same over options 0 f ∙ unrefused)
+      (formula_unwatched over (unwatched options) f) (inside_watched over options f)
+
+  -- and so an answer to an until whose words stand in the place of those that are computed is exact
+  pub until_words_exact : (op : Op) (q : DecimalNumber) (f : Tree) (bound : Bound) (g : Tree)
+      → first_refusal over options (until op q f bound g) ≡ None → (vs ws : List Verdict)
+      → vs ≡ (formula_answer over options f).verdicts → ws ≡ (formula_answer over options g).verdicts → (words : ℕ → WordBracket)
+      → StandInUntil over options op q f g vs ws bound words → (answer : AnswerLists)
+      → unwatched_answer answer
+      ≡ shown_answer (Some (last_jumps over options bound)) []
+      (first_answers words (comparison_of op) (decimal_fraction q.c q.x) over.chain.states)
+      → IsWatched options answer → IsExactAnswer over options (until op q f bound g) answer
+  until_words_exact op q f bound g unrefused vs ws are too words stand answer e w =
+      let operands = first_of (first_refusal over options f) (first_refusal over options g) in
+      let none = none_of operands (bound_refusal over options bound) unrefused in
+      let both = none_of (first_refusal over options f) (first_refusal over options g) none.0 in
+      let inner : vs ≡ of over options f = are ∙ of_one over options (λ us. us) f in
+      let outer : ws ≡ of over options g = too ∙ of_one over options (λ us. us) g in
+      until_by_words over options op q f g (inside_exact f both.0) (inside_exact g both.1) few_bits state bound none.1 answer words
+      (subst₂ (λ us ys. StandInUntil over options op q f g us ys bound words) inner outer stand) e w

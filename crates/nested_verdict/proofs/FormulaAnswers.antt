@@ -3,9 +3,7 @@
 use Rattle.std.proofs.Common.{◌≡◌, ℕ, ◌<◌, true, false, List, [], All, length, map, Option, Some, None, refl, sym, ap, subst, ◌∙◌, arith}
 use Rattle.std.proofs.lemmas.List.{get_or-map, length-map}
 use Rattle.std.proofs.lemmas.List.FromFn.{length-map-range_with_len}
-use Rattle.ctmc_semantics.specs.Fraction.{decimal_fraction}
 use Rattle.command_words.specs.declared.command.Options.{Options}
-use Rattle.csl_semantics.specs.Meaning.{comparison_of}
 use Rattle.csl_syntax.specs.Tree.{Tree, truth, falsehood, label, negation, conjunction, disjunction, next, until}
 use Rattle.csl_syntax.specs.declared.formula.Bound.{Bound}
 use Rattle.csl_syntax.specs.declared.formula.Bound.TheVariants.{Unbounded, Time, Reward}
@@ -17,16 +15,14 @@ use Rattle.report.specs.AnswerText.{IsPrintable, ArePrintable, IsWritable}
 use Rattle.report.specs.declared.answer.Printed.{Printed}
 use Rattle.report.specs.declared.answer.Verdict.{Verdict}
 use Rattle.report.specs.declared.answer.Verdict.TheVariants.{Undecided}
-use Rattle.nested_verdict.specs.ExactAnswer.{unwatched}
 use Rattle.nested_verdict.specs.FormulaAnswer.{first_of, first_refusal, formula_answer, verdicts_answer, shown_answer, next_states, until_states}
-use Rattle.nested_verdict.specs.ThreeValues.{opposite_verdict, both_verdicts, either_verdict, verdict_at, verdict_sets, opposites, both, either}
-use Rattle.nested_verdict.specs.UntilAnswer.{plan_answers}
+use Rattle.nested_verdict.specs.ThreeValues.{opposite_verdict, both_verdicts, either_verdict, verdict_at, opposites, both, either}
 use Rattle.nested_verdict.specs.UntilPlan.{IsPlanOf, bound_refusal, last_jumps}
 use Rattle.nested_verdict.specs.UnwatchedAnswer.{unwatched_answer}
+use Rattle.nested_verdict.specs.WatchedBrackets.{watching}
 use Rattle.nested_verdict.specs.declared.state_answer.StateAnswer.{StateAnswer}
 use Rattle.nested_verdict.proofs.Places.{parts_counted, verdict_part}
-use Rattle.nested_verdict.proofs.PlanCells.{plan_last}
-use Rattle.nested_verdict.proofs.PlanWords.{plan_answers_are}
+use Rattle.step_core.specs.FrameLists.{SetLists}
 use Rattle.step_core.specs.PlanLists.{PlanLists}
 use Rattle.step_core.specs.declared.plan_error.PlanError.{PlanError}
 
@@ -67,50 +63,60 @@ module _ (over : LabelledChain) (options : Options) where
   verdicts_counted (next op q f) = parts_counted _ over.chain.states verdict_part
   verdicts_counted (until op q f bound g) = parts_counted _ over.chain.states verdict_part
 
-  -- ---- inside another formula it is the same
+  -- ---- it is the same however much is watched, and so inside another formula
   abbrev until_by : Options → Op → DecimalNumber → Bound → List Verdict → List Verdict → AnswerLists
   until_by o op q bound vs ws = shown_answer (Some (last_jumps over o bound)) [] (until_states over o op q bound vs ws)
-
-  until_same : (op : Op) (q : DecimalNumber) (bound : Bound) (vs ws : List Verdict)
-      → until_by (unwatched options) op q bound vs ws ≡ until_by options op q bound vs ws
-  until_same op q Unbounded vs ws = refl
-  until_same op q (Time t) vs ws = refl
-  until_same op q (Reward r) vs ws = refl
-
-  bound_same : (bound : Bound) → bound_refusal over (unwatched options) bound ≡ bound_refusal over options bound
-  bound_same Unbounded = refl
-  bound_same (Time t) = refl
-  bound_same (Reward r) = refl
 
   -- of two operands
   two_same : {X Y : Type 0} (op : X → X → Y) (a b c d : X) → a ≡ b → c ≡ d → op a c ≡ op b d
   two_same op a b c d e g = ap (λ x. op x c) e ∙ ap (op b) g
 
-  pub inside_same : (f : Tree) → formula_answer over (unwatched options) f ≡ formula_answer over options f
-  inside_same truth = refl
-  inside_same falsehood = refl
-  inside_same (label j) = refl
-  inside_same (negation f) = ap (λ (a : AnswerLists). verdicts_answer (opposites a.verdicts)) (inside_same f)
-  inside_same (conjunction f g) =
-      two_same (λ (a b : AnswerLists). verdicts_answer (both a.verdicts b.verdicts)) _ _ _ _ (inside_same f) (inside_same g)
-  inside_same (disjunction f g) =
-      two_same (λ (a b : AnswerLists). verdicts_answer (either a.verdicts b.verdicts)) _ _ _ _ (inside_same f) (inside_same g)
-  inside_same (next op q f) =
-      ap (λ (a : AnswerLists). shown_answer None [] (next_states over op q a.verdicts)) (inside_same f)
-  inside_same (until op q f bound g) =
-      two_same (λ (a b : AnswerLists). until_by (unwatched options) op q bound a.verdicts b.verdicts) _ _ _ _ (inside_same f) (inside_same g)
-      ∙ until_same op q bound (formula_answer over options f).verdicts (formula_answer over options g).verdicts
+  module _ (count : ℕ) where
+    abbrev other : Options
+    other = watching options count
 
-  pub refusal_same : (f : Tree) → first_refusal over (unwatched options) f ≡ first_refusal over options f
-  refusal_same truth = refl
-  refusal_same falsehood = refl
-  refusal_same (label j) = refl
-  refusal_same (negation f) = refusal_same f
-  refusal_same (conjunction f g) = two_same first_of _ _ _ _ (refusal_same f) (refusal_same g)
-  refusal_same (disjunction f g) = two_same first_of _ _ _ _ (refusal_same f) (refusal_same g)
-  refusal_same (next op q f) = refusal_same f
-  refusal_same (until op q f bound g) =
-      two_same first_of _ _ _ _ (two_same first_of _ _ _ _ (refusal_same f) (refusal_same g)) (bound_same bound)
+    until_same : (op : Op) (q : DecimalNumber) (bound : Bound) (vs ws : List Verdict)
+        → until_by other op q bound vs ws ≡ until_by options op q bound vs ws
+    until_same op q Unbounded vs ws = refl
+    until_same op q (Time t) vs ws = refl
+    until_same op q (Reward r) vs ws = refl
+
+    pub bound_same : (bound : Bound) → bound_refusal over other bound ≡ bound_refusal over options bound
+    bound_same Unbounded = refl
+    bound_same (Time t) = refl
+    bound_same (Reward r) = refl
+
+    pub plan_same : (bound : Bound) (sets : SetLists) (plan : PlanLists) → IsPlanOf over options bound sets plan
+        → IsPlanOf over other bound sets plan
+    plan_same Unbounded sets plan is = is
+    plan_same (Time t) sets plan is = is
+    plan_same (Reward r) sets plan is = is
+
+    pub answer_same : (f : Tree) → formula_answer over other f ≡ formula_answer over options f
+    answer_same truth = refl
+    answer_same falsehood = refl
+    answer_same (label j) = refl
+    answer_same (negation f) = ap (λ (a : AnswerLists). verdicts_answer (opposites a.verdicts)) (answer_same f)
+    answer_same (conjunction f g) =
+        two_same (λ (a b : AnswerLists). verdicts_answer (both a.verdicts b.verdicts)) _ _ _ _ (answer_same f) (answer_same g)
+    answer_same (disjunction f g) =
+        two_same (λ (a b : AnswerLists). verdicts_answer (either a.verdicts b.verdicts)) _ _ _ _ (answer_same f) (answer_same g)
+    answer_same (next op q f) =
+        ap (λ (a : AnswerLists). shown_answer None [] (next_states over op q a.verdicts)) (answer_same f)
+    answer_same (until op q f bound g) =
+        two_same (λ (a b : AnswerLists). until_by other op q bound a.verdicts b.verdicts) _ _ _ _ (answer_same f) (answer_same g)
+        ∙ until_same op q bound (formula_answer over options f).verdicts (formula_answer over options g).verdicts
+
+    pub refusal_same : (f : Tree) → first_refusal over other f ≡ first_refusal over options f
+    refusal_same truth = refl
+    refusal_same falsehood = refl
+    refusal_same (label j) = refl
+    refusal_same (negation f) = refusal_same f
+    refusal_same (conjunction f g) = two_same first_of _ _ _ _ (refusal_same f) (refusal_same g)
+    refusal_same (disjunction f g) = two_same first_of _ _ _ _ (refusal_same f) (refusal_same g)
+    refusal_same (next op q f) = refusal_same f
+    refusal_same (until op q f bound g) =
+        two_same first_of _ _ _ _ (two_same first_of _ _ _ _ (refusal_same f) (refusal_same g)) (bound_same bound)
 
 -- ---- an answer that shows nothing is its verdicts
 pub by_verdicts : (answer : AnswerLists) → answer.shown ≡ None → verdicts_answer answer.verdicts ≡ answer
@@ -122,17 +128,12 @@ module _ (over : LabelledChain) (options : Options) (op : Op) (q : DecimalNumber
   pub next_answered : shown_answer None [] (next_states over op q vs) ≡ formula_answer over options (next op q f)
   next_answered = ap (λ vs. shown_answer None [] (next_states over op q vs)) are
 
-  module _ (too : ws ≡ (formula_answer over options g).verdicts) (bound : Bound) (plan : PlanLists)
-      (is : IsPlanOf over options bound (verdict_sets vs ws) plan) where
-    pub until_answered : shown_answer (Some plan.layers) [] (plan_answers plan (comparison_of op) (decimal_fraction q.c q.x))
-        ≡ formula_answer over options (until op q f bound g)
-    until_answered =
-        ap (λ (last : ℕ). shown_answer (Some last) [] (plan_answers plan (comparison_of op) (decimal_fraction q.c q.x)))
-        (plan_last over options (verdict_sets vs ws) plan bound is)
-        ∙ ap (shown_answer (Some (last_jumps over options bound)) [])
-        (plan_answers_are over options vs ws plan bound is (comparison_of op) (decimal_fraction q.c q.x))
-        ∙ ap (λ vs. until_by over options options op q bound vs ws) are
-        ∙ ap (until_by over options options op q bound (formula_answer over options f).verdicts) too
+  pub until_answered : ws ≡ (formula_answer over options g).verdicts → (bound : Bound)
+      → shown_answer (Some (last_jumps over options bound)) [] (until_states over options op q bound vs ws)
+      ≡ formula_answer over options (until op q f bound g)
+  until_answered too bound =
+      ap (λ vs. until_by over options options op q bound vs ws) are
+      ∙ ap (until_by over options options op q bound (formula_answer over options f).verdicts) too
 
 -- ---- answers can be printed
 some_is_none : (shown : ShownLists) → None ≡ Some shown → ⊥

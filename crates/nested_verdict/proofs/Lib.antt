@@ -3,6 +3,7 @@ pub mod OperandSets
 pub mod NextGrows
 pub mod Widening
 pub mod ExactAnswers
+pub mod WiderWords
 pub mod ChainWalks
 pub mod PlanCells
 pub mod PlanWords
@@ -19,6 +20,10 @@ pub mod Unwatched
 pub mod ExactNext
 pub mod ShownUntil
 pub mod RewardBound
+pub mod RunBrackets
 pub mod ExactUntil
+pub mod ExactBounds
 pub mod ExactFormulas
-pub mod ReadStates
+pub mod EarlyAnswers
+pub mod UntilWords
+pub mod AnsweredOperators

@@ -9,7 +9,8 @@ use Rattle.csl_semantics.specs.Meaning.{IsSat}
 use Rattle.csl_syntax.specs.Tree.{Tree, truth, falsehood, label, negation, conjunction, disjunction, next, until}
 use Rattle.csl_syntax.specs.declared.formula.Bound.TheVariants.{Unbounded, Time, Reward}
 use Rattle.model_core.specs.Model.{LabelledChain}
-use Rattle.nested_verdict.specs.ExactAnswer.{IsSo, AreSo, AreDecided}
+use Rattle.nested_verdict.specs.EarlyEnd.{AreDecided}
+use Rattle.nested_verdict.specs.ExactAnswer.{IsSo, AreSo}
 use Rattle.nested_verdict.specs.ThreeValues.{is_sure, may_be, must_list, may_list, verdict_sets, verdicts_know}
 use Rattle.report.specs.declared.answer.Verdict.{Verdict}
 use Rattle.report.specs.declared.answer.Verdict.TheVariants.{Satisfied, Refuted, Undecided}

@@ -1,5 +1,5 @@
 -- The words of a plan are those of its until.
-use Rattle.std.proofs.Common.{◌≡◌, ℕ, ◌<◌, Bool, List, cond, IsTrue, ap, subst, ◌∙◌, length, arith, sym}
+use Rattle.std.proofs.Common.{◌≡◌, ℕ, ◌<◌, ◌⊎◌, inl, inr, Bool, List, cond, IsTrue, ap, subst, ◌∙◌, length, arith, sym}
 use Rattle.std.specs.Prelude.{slice_index}
 use Rattle.std.proofs.lemmas.List.FromFn.{fill_by_all, get_or-map-range_with_len, length-map-range_with_len}
 use Rattle.ctmc_semantics.specs.Chain.{Chain}
@@ -17,8 +17,8 @@ use Rattle.command_words.specs.declared.command.Options.{Options}
 use Rattle.csl_semantics.specs.Meaning.{load_of}
 use Rattle.csl_syntax.specs.declared.formula.Bound.{Bound}
 use Rattle.csl_syntax.specs.declared.formula.Bound.TheVariants.{Unbounded, Time, Reward}
-use Rattle.mix_columns.specs.Mixed.{mixed_words, plan_mix, plan_settle, one_thread_words, words_of}
-use Rattle.mix_columns.specs.SideBySide.{bracket_at}
+use Rattle.mix_columns.specs.Mixed.{mixed_words, plan_mix, plan_settle, one_thread_words}
+use Rattle.mix_columns.specs.MixLaws.{EnclosesWords}
 use Rattle.model_core.specs.Model.{LabelledChain}
 use Rattle.step_core.specs.FrameLists.{SetLists}
 use Rattle.step_core.specs.FrameRows.{frame_rows, StandFor}
@@ -30,14 +30,19 @@ use Rattle.step_core.specs.WalkFound.{can_reach}
 use Rattle.step_core.specs.declared.bracket.Bracket.{Bracket}
 use Rattle.uniformise.specs.TimePlan.{IsTimePlan}
 use Rattle.uniformise.specs.UnboundedPlan.{IsUnboundedPlan}
-use Rattle.nested_verdict.specs.UntilAnswer.{time_words, reach_words, state_words, words_answer, first_answers, until_answers, plan_answers, listed_words, bracket_answers}
+use Rattle.reader_pass.specs.StateBrackets.{AreOneThread}
+use Rattle.nested_verdict.specs.EarlyEnd.{MayEndEarly}
+use Rattle.nested_verdict.specs.UntilAnswer.{time_words, reach_words, state_words, words_answer, first_answers, listed_words}
+use Rattle.nested_verdict.specs.UntilBrackets.{AllDecide, AreUntilBrackets}
 use Rattle.nested_verdict.specs.ThreeValues.{verdict_sets, verdicts_know}
 use Rattle.csl_semantics.specs.Dual.{dual, reward_load}
 use Rattle.nested_verdict.specs.UntilPlan.{IsPlanOf, dual_by, load_by}
 use Rattle.report.specs.declared.answer.Verdict.{Verdict}
 use Rattle.nested_verdict.proofs.ChainWalks.{reach_is}
+use Rattle.nested_verdict.proofs.Places.{decided_all, verdicts_by}
 use Rattle.nested_verdict.proofs.PlanCells.{plan_states}
 use Rattle.nested_verdict.proofs.SameTables.{low_of_rows, high_of_rows}
+use Rattle.nested_verdict.proofs.WiderWords.{StandIn}
 
 -- ---- a plan over a chain, with what its operands' verdicts tell of the sets
 module _ (chain : Chain) (vs ws : List Verdict) (plan : PlanLists) (sound : IsSoundPlan plan)
@@ -96,13 +101,16 @@ module _ (chain : Chain) (vs ws : List Verdict) (plan : PlanLists) (sound : IsSo
         (slice_index plan.start_upper) start starts k s here
 
     -- a state's bracket is settled by the sets
+    settles : (mixed : WordBracket) → plan_settle plan s mixed
+        ≡ settle (sets.goal_must s) (can_reach chain.states chain.rate sets.live_may sets.goal_may s) mixed
+    settles mixed =
+        ap (λ g. settle g (holds_at plan.reach s) mixed) (goal_must s)
+        ∙ ap (λ r. settle (sets.goal_must s) r mixed) (same_reach s inside)
+
     settled_is : (mixed : WordBracket) → plan_mix plan low_words high_words ≡ mixed
         → one_thread_words plan s
         ≡ settle (sets.goal_must s) (can_reach chain.states chain.rate sets.live_may sets.goal_may s) mixed
-    settled_is mixed is =
-        ap (plan_settle plan s) is
-        ∙ ap (λ g. settle g (holds_at plan.reach s) mixed) (goal_must s)
-        ∙ ap (λ r. settle (sets.goal_must s) r mixed) (same_reach s inside)
+    settled_is mixed is = ap (plan_settle plan s) is ∙ settles mixed
 
 abbrev bracket : ℕ → ℕ → WordBracket
 bracket lower upper = record { lower = lower; upper = upper }
@@ -189,7 +197,7 @@ module _ (chain : Chain) (jumps : ℕ) (vs ws : List Verdict) (plan : PlanLists)
 
 -- ---- answers from the same words are the same
 module _ (by : Comparison) (q : Fraction) (n : ℕ) (x y : ℕ → WordBracket) (same : (s : ℕ) → s < n → x s ≡ y s) where
-  first_same : first_answers x by q n ≡ first_answers y by q n
+  pub first_same : first_answers x by q n ≡ first_answers y by q n
   first_same =
       let some_answer = words_answer by (y 0) q in
       fill_by_all (λ s. words_answer by (y s) q) (first_answers x by q n) n some_answer
@@ -198,28 +206,72 @@ module _ (by : Comparison) (q : Fraction) (n : ℕ) (x y : ℕ → WordBracket) 
       get_or-map-range_with_len (λ t. words_answer by (x t) q) 0 n s s some_answer inside (omega arith)
       ∙ ap (λ w. words_answer by w q) (same s inside))
 
--- the answers from the plan's brackets
-pub bracket_answers_are : (plan : PlanLists) (brackets : List Bracket) → length brackets ≡ length plan.frame.rows
-    → ((s : ℕ) → s < length plan.frame.rows → words_of (bracket_at brackets s) ≡ one_thread_words plan s)
-    → (by : Comparison) (q : Fraction) → bracket_answers brackets by q ≡ plan_answers plan by q
-bracket_answers_are plan brackets counted exact by q =
-    ap (first_answers (listed_words brackets) by q) counted
-    ∙ first_same by q (length plan.frame.rows) (listed_words brackets) (one_thread_words plan) exact
+-- the chain whose jumps an until counts: of one with a bound on the reward the dual chain
+abbrev pub bound_chain : LabelledChain → Bound → Chain
+bound_chain over Unbounded = over.chain
+bound_chain over (Time t) = over.chain
+bound_chain over (Reward r) = dual_by over over.rewards
 
--- are those of the until
+-- whether a walk of its jumps leads from the state to what may be the goal
+abbrev pub bound_reach : LabelledChain → Bound → KnownSets → ℕ → Bool
+bound_reach over bound sets s =
+    can_reach (bound_chain over bound).states (bound_chain over bound).rate sets.live_may sets.goal_may s
+
+-- ---- the words of a plan are those of the until
 module _ (over : LabelledChain) (options : Options) (vs ws : List Verdict) (plan : PlanLists) where
+  abbrev both_sets : KnownSets
+  both_sets = verdicts_know vs ws
+
   words_are : (bound : Bound) → IsPlanOf over options bound (verdict_sets vs ws) plan → (s : ℕ) → s < over.chain.states
-      → one_thread_words plan s ≡ state_words over options bound (verdicts_know vs ws) s
+      → one_thread_words plan s ≡ state_words over options bound both_sets s
   words_are Unbounded is s inside = reach_words_are over.chain options.jumps vs ws plan is s inside
   words_are (Time t) is s inside = time_words_are over.chain (load_of over t) options.bits vs ws plan is s inside
   words_are (Reward r) is s inside =
       let rewards = is.earns.rewards in
       time_words_are (dual over.chain rewards.reward) (reward_load over rewards r) options.bits vs ws plan is.is s inside
-      ∙ ap (λ o. time_words (dual_by over o) (load_by over r o) options.bits (verdicts_know vs ws) s) (sym is.earns.are)
+      ∙ ap (λ o. time_words (dual_by over o) (load_by over r o) options.bits both_sets s) (sym is.earns.are)
 
-  pub plan_answers_are : (bound : Bound) → IsPlanOf over options bound (verdict_sets vs ws) plan → (by : Comparison) (q : Fraction)
-      → plan_answers plan by q ≡ until_answers over options bound (verdicts_know vs ws) by q
-  plan_answers_are bound is by q =
-      ap (first_answers (one_thread_words plan) by q) (plan_states over options (verdict_sets vs ws) plan bound is)
-      ∙ first_same by q over.chain.states (one_thread_words plan) (state_words over options bound (verdicts_know vs ws))
-      (words_are bound is)
+  -- and so are those that need no counting
+  settled_by : (bound : Bound) → IsPlanOf over options bound (verdict_sets vs ws) plan → (s : ℕ) → s < over.chain.states
+      → (words : WordBracket)
+      → plan_settle plan s words ≡ settle (both_sets.goal_must s) (bound_reach over bound both_sets s) words
+  settled_by Unbounded is s inside words = settles over.chain vs ws plan is.sound is.rows is.sets_are s inside words
+  settled_by (Time t) is s inside words = settles over.chain vs ws plan is.sound is.rows is.sets_are s inside words
+  settled_by (Reward r) is s inside words =
+      let rewards = is.earns.rewards in
+      settles (dual over.chain rewards.reward) vs ws plan is.is.sound is.is.rows is.is.sets_are s inside words
+      ∙ ap (λ o. settle (both_sets.goal_must s)
+      (can_reach (dual_by over o).states (dual_by over o).rate both_sets.live_may both_sets.goal_may s) words) (sym is.earns.are)
+
+  -- the brackets of a plan's states stand in the place of the until's
+  module _ (bound : Bound) (is : IsPlanOf over options bound (verdict_sets vs ws) plan) (by : Comparison) (q : Fraction)
+      (brackets : List Bracket) (are : AreUntilBrackets plan options.until_decided by q brackets) where
+    pub counted : length brackets ≡ over.chain.states
+    counted = are.enclose.each_state ∙ plan_states over options (verdict_sets vs ws) plan bound is
+
+    of_plan : (s : ℕ) → s < over.chain.states → s < length plan.frame.rows
+    of_plan s inside = omega (arith, inside, plan_states over options (verdict_sets vs ws) plan bound is)
+
+    abbrev no_words : Bracket
+    no_words = record { lower = 0; upper = 0 }
+
+    ended_or : (IsTrue options.until_decided × AllDecide by q brackets) ⊎ AreOneThread plan brackets
+        → MayEndEarly options (verdicts_by (listed_words brackets) by q over.chain.states)
+        ⊎ ((s : ℕ) → s < over.chain.states → listed_words brackets s ≡ state_words over options bound both_sets s)
+    ended_or (inl early) =
+        inl (record {
+          asked = early.0;
+          decided =
+              decided_all (λ s. words_answer by (listed_words brackets s) q) over.chain.states
+              (λ s inside. early.1 s no_words (omega (arith, inside, counted)));
+        })
+    ended_or (inr one) = inr (λ s inside. one.words s (of_plan s inside) ∙ words_are bound is s inside)
+
+    pub brackets_stand : StandIn (MayEndEarly options (verdicts_by (listed_words brackets) by q over.chain.states)) over.chain.states
+        both_sets.goal_must (bound_reach over bound both_sets) (state_words over options bound both_sets) (listed_words brackets)
+    brackets_stand = record {
+      encloses = λ s inside.
+          subst (EnclosesWords (listed_words brackets s)) (words_are bound is s inside) (are.enclose.words s (of_plan s inside)).encloses;
+      settled = λ s inside. (are.enclose.words s (of_plan s inside)).settled ∙ settled_by bound is s inside (listed_words brackets s);
+      same = ended_or are.ended;
+    }

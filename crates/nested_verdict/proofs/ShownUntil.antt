@@ -16,28 +16,29 @@ use Rattle.model_core.specs.Model.{LabelledChain}
 use Rattle.report.specs.Answer.{AnswerLists}
 use Rattle.report.specs.declared.answer.Printed.{Printed}
 use Rattle.report.specs.declared.answer.Verdict.{Verdict}
-use Rattle.nested_verdict.specs.ExactAnswer.{IsSo, AreSo, AreWatched, ForEach, ShowsUntil, IsOutOfReach}
+use Rattle.nested_verdict.specs.EarlyEnd.{MayEndEarly}
+use Rattle.nested_verdict.specs.ExactAnswer.{IsSo, AreSo, AreWatched, ForEach, ShowsUntil, IsNearUnless, IsOutOfReach}
 use Rattle.nested_verdict.specs.ExactState.{IsExactUntil}
-use Rattle.nested_verdict.specs.FormulaAnswer.{shown_answer, until_states}
+use Rattle.nested_verdict.specs.FormulaAnswer.{shown_answer}
 use Rattle.nested_verdict.specs.ThreeValues.{must_list, may_list, verdicts_know}
-use Rattle.nested_verdict.specs.UntilAnswer.{state_words, words_answer}
+use Rattle.nested_verdict.specs.UntilAnswer.{first_answers, words_answer}
 use Rattle.nested_verdict.specs.UntilPlan.{last_jumps}
 use Rattle.nested_verdict.specs.WatchedBrackets.{AreTaken, AreTakenOf}
 use Rattle.nested_verdict.specs.declared.state_answer.StateAnswer.{StateAnswer}
 use Rattle.nested_verdict.proofs.OperatorsSo.{so_by}
-use Rattle.nested_verdict.proofs.Places.{answers, bracket_part, exact_at, part_here, parts_counted, so_at, verdict_part}
+use Rattle.nested_verdict.proofs.Places.{answers, bracket_part, exact_at, part_here, parts_counted, so_at, verdict_part, verdicts_by}
 use Rattle.nested_verdict.proofs.WatchedLemmas.{all_contain}
 use Rattle.nested_verdict.proofs.Widening.{Widens}
 
 module _ (over : LabelledChain) (options : Options) (op : Op) (q : DecimalNumber) (bound : Bound) (f g : Tree) (vs ws : List Verdict)
     (values : (ℕ → Bool) → (ℕ → Bool) → ℕ → ℕ → Fraction) (Contains : Bracket → (ℕ → Fraction) → Type 0)
     (AreNear : ℕ → WordBracket → Type 0) (state : options.state < over.chain.states)
-    (widens : (x : ℕ → Fraction) → Widens (λ b. Contains b x))
+    (widens : (x : ℕ → Fraction) → Widens (λ b. Contains b x)) (words : ℕ → WordBracket)
     (exact : (s : ℕ) → s < over.chain.states
-    → IsExactUntil (comparison_of op) (ForEach over f g values s) (λ b. ForEach over f g values s (Contains b)) (AreNear s)
+    → IsExactUntil (comparison_of op) (ForEach over f g values s) (λ b. ForEach over f g values s (Contains b))
+    (IsNearUnless (MayEndEarly options (verdicts_by words (comparison_of op) (decimal_fraction q.c q.x) over.chain.states)) (AreNear s))
     (IsTrue (holds_at (must_list ws) s)) (IsOutOfReach over.chain (holds_at (may_list vs)) (holds_at (may_list ws)) s)
-    (decimal_fraction q.c q.x)
-    (words_answer (comparison_of op) (state_words over options bound (verdicts_know vs ws) s) (decimal_fraction q.c q.x)))
+    (decimal_fraction q.c q.x) (words_answer (comparison_of op) (words s) (decimal_fraction q.c q.x)))
     (means : (xs : List Bool) → IsSat over (until op q f bound g) xs
     → HoldsOverBoth over.chain.states (IsSat over f) (IsSat over g) (λ y z s. SequenceMeets op q (values y z s)) xs) where
   abbrev n : ℕ
@@ -53,7 +54,7 @@ module _ (over : LabelledChain) (options : Options) (op : Op) (q : DecimalNumber
   sets = verdicts_know vs ws
 
   abbrev until_at : ℕ → StateAnswer
-  until_at s = words_answer by (state_words over options bound sets s) limit
+  until_at s = words_answer by (words s) limit
 
   abbrev EachContains : ℕ → Bracket → Type 0
   EachContains s b = ForEach over f g values s (Contains b)
@@ -72,7 +73,7 @@ module _ (over : LabelledChain) (options : Options) (op : Op) (q : DecimalNumber
       (told.fails e m.left m.right m.stands_left m.stands_right) (here.0 h))
 
   abbrev due : List Printed → AnswerLists
-  due watched = shown_answer (Some (last_jumps over options bound)) watched (until_states over options op q bound vs ws)
+  due watched = shown_answer (Some (last_jumps over options bound)) watched (first_answers words by limit n)
 
   pub until_are_so : (watched : List Printed) → AreSo over (until op q f bound g) (due watched).verdicts
   until_are_so watched = record {
@@ -103,7 +104,8 @@ module _ (over : LabelledChain) (options : Options) (op : Op) (q : DecimalNumber
       shown = refl;
       exact =
           exact_at until_at n
-          (λ s. IsExactUntil by (ForEach over f g values s) (EachContains s) (AreNear s) (IsTrue (sets.goal_must s))
+          (λ s. IsExactUntil by (ForEach over f g values s) (EachContains s)
+          (IsNearUnless (MayEndEarly options (verdicts_by words by limit n)) (AreNear s)) (IsTrue (sets.goal_must s))
           (IsOutOfReach over.chain sets.live_may sets.goal_may s) limit) exact;
       watches =
           subst (λ o. IsSomeAnd o (λ printed. AreWatched options.watch (EachContains options.state) printed watched))

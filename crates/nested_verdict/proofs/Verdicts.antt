@@ -1,5 +1,5 @@
 -- The words of untils contain them, and decide thresholds on their values.
-use Rattle.std.proofs.Common.{◌≡◌, ℕ, ◌+◌, ◌≤◌, ◌<◌, Bool, false, IsTrue, List, [], ◌∷◌, ◌++◌, sym, ap, ◌∙◌, arith}
+use Rattle.std.proofs.Common.{◌≡◌, ℕ, ◌+◌, ◌≤◌, ◌<◌, Bool, false, IsTrue, List, [], ◌∷◌, ◌++◌, sym, ap, ◌∙◌, subst, arith}
 use Rattle.std.proofs.Math.Nat.{one-le-pow}
 use Rattle.std.proofs.lemmas.Bool.{false_from_ne_true}
 use Rattle.std.proofs.lemmas.List.FromFn.{map-range_with_len_more}
@@ -15,7 +15,7 @@ use Rattle.ctmc_semantics.specs.Rows.{rows_of, IsRowsOf}
 use Rattle.ctmc_semantics.specs.Sets.{KnownSets, known_exactly, LieBetween}
 use Rattle.ctmc_semantics.specs.Threshold.{Comparison}
 use Rattle.ctmc_semantics.specs.Uniformised.{uniform_rate, uniformised}
-use Rattle.ctmc_semantics.specs.WordBracket.{WordBracket, word_bracket, until_words, last_words}
+use Rattle.ctmc_semantics.specs.WordBracket.{WordBracket, word_bracket, settle}
 use Rattle.ctmc_semantics.proofs.AverageLemmas.{average_rises, den_positive}
 use Rattle.ctmc_semantics.proofs.JumpsRise.{jump_value_rises}
 use Rattle.ctmc_semantics.proofs.NarrowBracket.{settled_bracket_narrow}
@@ -60,6 +60,13 @@ module _ (chain : Chain) (sets : KnownSets) (surely : LieBetween sets sets.live_
     false_from_ne_true (reach s) (λ h. none (walk_of chain.states chain.rate sets.live_may sets.goal_may s h)),
   )
 
+  -- words that are settled are printed so
+  pub settled_printed : (words : WordBracket) → words ≡ settle (sets.goal_must s) (reach s) words
+      → IsSettled (IsTrue (sets.goal_must s)) out (printed_units (word_bracket words))
+  settled_printed words is =
+      subst (λ w. IsSettled (IsTrue (sets.goal_must s)) out (printed_units (word_bracket w))) (sym is)
+      (is_settled (sets.goal_must s) (reach s) words (IsTrue (sets.goal_must s)) out (λ h. h) out_of_reach)
+
   -- ---- within a time
   module _ (load : Fraction) (bits : ℕ) (positive : 0 < load.den) (few : bits ≤ 48) where
     abbrev last : ℕ
@@ -77,18 +84,15 @@ module _ (chain : Chain) (sets : KnownSets) (surely : LieBetween sets sets.live_
         settled_contains (rows_of jumps) jumps load bits sets live goal reach s are_rows (uniformised_stochastic chain) some_rate positive
         (omega (arith, few)) inside between closed
 
-    pub time_decides : (live goal : ℕ → Bool) → LieBetween sets live goal → DecidesValue time_bracket (averages live goal)
-    time_decides live goal between =
-        bounded_decided (word_bracket time_bracket) last (averages live goal) (words_have_ends time_bracket)
+    -- what contains it decides thresholds on its value
+    pub time_decides : (words : WordBracket) (live goal : ℕ → Bool) → ContainsFrom (word_bracket words) last (averages live goal)
+        → DecidesValue words (averages live goal)
+    time_decides words live goal contains =
+        bounded_decided (word_bracket words) last (averages live goal) (words_have_ends words)
         (λ n. den_positive load jumps.total (λ k. jump_value jumps live goal k s) positive some_rate n)
         (λ n. average_rises load.num load.den jumps.total (λ k. jump_value jumps live goal k s)
         (λ k. jump_value_rises jumps live goal k s) n)
-        (time_contains live goal between)
-
-    pub time_settled : IsSettled (IsTrue (sets.goal_must s)) out (printed_units (word_bracket time_bracket))
-    time_settled =
-        is_settled (sets.goal_must s) (reach s) (until_words (rows_of jumps) load bits sets s) (IsTrue (sets.goal_must s)) out (λ h. h)
-        out_of_reach
+        contains
 
   -- ---- within any number of jumps
   module _ (last : ℕ) where
@@ -104,15 +108,12 @@ module _ (chain : Chain) (sets : KnownSets) (surely : LieBetween sets sets.live_
         settled_last_contains (rows_of jumps) jumps last sets live goal reach s are_rows (uniformised_stochastic chain) some_rate inside
         between closed
 
-    pub reach_decides : (live goal : ℕ → Bool) → LieBetween sets live goal → DecidesValue reach_bracket (values live goal)
-    reach_decides live goal between =
-        unbounded_decided (word_bracket reach_bracket) last (values live goal) (words_have_ends reach_bracket)
-        (λ n. omega (arith, one-le-pow n jumps.total some_rate)) (reach_contains live goal between)
-
-    pub reach_settled : IsSettled (IsTrue (sets.goal_must s)) out (printed_units (word_bracket reach_bracket))
-    reach_settled =
-        is_settled (sets.goal_must s) (reach s) (last_words (rows_of jumps) last sets reach s) (IsTrue (sets.goal_must s)) out (λ h. h)
-        out_of_reach
+    -- what contains it decides thresholds on its value
+    pub reach_decides : (words : WordBracket) (live goal : ℕ → Bool) → ContainsLimit (word_bracket words) last (values live goal)
+        → DecidesValue words (values live goal)
+    reach_decides words live goal contains =
+        unbounded_decided (word_bracket words) last (values live goal) (words_have_ends words)
+        (λ n. omega (arith, one-le-pow n jumps.total some_rate)) contains
 
 -- ---- where both sets are known exactly
 module _ (chain : Chain) (live goal : ℕ → Bool) (s : ℕ) (inside : s < chain.states) where

@@ -12,15 +12,13 @@ use Rattle.ctmc_semantics.specs.Fraction.{Fraction}
 use Rattle.ctmc_semantics.specs.Threshold.{Comparison}
 use Rattle.ctmc_semantics.specs.WordBracket.{WordBracket, word_bracket}
 use Rattle.command_words.specs.declared.command.Options.{Options}
-use Rattle.column_workers.specs.Watched.{AreWatched}
-use Rattle.mix_columns.specs.Mixed.{one_thread_words, words_of}
-use Rattle.mix_columns.specs.SideBySide.{bracket_at}
+use Rattle.mix_columns.specs.Mixed.{words_of}
 use Rattle.mix_columns.specs.MixLaws.{EnclosesWords}
 use Rattle.nested_verdict.specs.BracketAnswer.{printed_units}
 use Rattle.nested_verdict.specs.UntilAnswer.{words_answer, listed_words, bracket_answers, printed_brackets}
+use Rattle.nested_verdict.specs.UntilBrackets.{AreTakenOfState}
 use Rattle.nested_verdict.specs.WatchedBrackets.{bracket_of, AreTaken, AreTakenOf}
 use Rattle.report.specs.declared.answer.Printed.{Printed}
-use Rattle.step_core.specs.PlanLists.{PlanLists}
 use Rattle.step_core.specs.declared.bracket.Bracket.{Bracket}
 use Rattle.nested_verdict.specs.declared.state_answer.StateAnswer.{StateAnswer}
 use Rattle.nested_verdict.proofs.Places.{part_found}
@@ -53,24 +51,22 @@ printed_encloses outer inner h = record {
 }
 
 -- ---- the bracket of a state as it is printed
-pub printed_here : (plan : PlanLists) (brackets : List Bracket) (by : Comparison) (q : Fraction) (states : List StateAnswer) (s : ℕ)
-    → length brackets ≡ length plan.frame.rows
-    → ((t : ℕ) → t < length plan.frame.rows → words_of (bracket_at brackets t) ≡ one_thread_words plan t)
+pub printed_here : (brackets : List Bracket) (by : Comparison) (q : Fraction) (states : List StateAnswer) (s : ℕ)
     → states ≡ bracket_answers brackets by q
     → (printed : Printed) → slice_get (map (λ (a : StateAnswer). a.bracket) states) s ≡ Some printed
-    → printed ≡ printed_of (one_thread_words plan s)
-printed_here plan brackets by q states s count exact are printed e =
+    → printed ≡ printed_of (listed_words brackets s)
+printed_here brackets by q states s are printed e =
     let answer : ℕ → StateAnswer = λ t. words_answer by (listed_words brackets t) q in
     let found =
     part_found answer (length brackets) (λ (a : StateAnswer). a.bracket) s printed
     (subst (λ xs. slice_get (map (λ (a : StateAnswer). a.bracket) xs) s ≡ Some printed) are e) in
-    found.1 ∙ ap printed_of (exact s (omega (arith, found.0, count)))
+    found.1
 
 -- ---- what was taken, as it is printed
 abbrev no_words : Bracket
 no_words = record { lower = 0; upper = 0 }
 
-module _ (plan : PlanLists) (s wanted : ℕ) (outer : WordBracket) (watched : List Bracket) (are : AreWatched plan s wanted outer watched) where
+module _ (wanted : ℕ) (words : WordBracket) (watched : List Bracket) (are : AreTakenOfState wanted words watched) where
   abbrev print : Bracket → Printed
   print w = printed_of (words_of w)
 
@@ -81,12 +77,12 @@ module _ (plan : PlanLists) (s wanted : ℕ) (outer : WordBracket) (watched : Li
       → get_or (printed_brackets watched) i d ≡ print (get_or watched i no_words)
   print_at i d l = get_or-map print watched i no_words d (omega (arith, l, counted))
 
-  taken_printed : AreTaken (printed_of (one_thread_words plan s)) (printed_brackets watched)
+  taken_printed : AreTaken (printed_of words) (printed_brackets watched)
   taken_printed = record {
     nested = λ i j d l m.
         subst₂ (λ a b. Encloses (bracket_of a) (bracket_of b)) (sym (print_at i d (omega (arith, l, m)))) (sym (print_at j d m))
         (printed_encloses (words_of (get_or watched i no_words)) (words_of (get_or watched j no_words))
-        (are.taken.nested i j no_words l (omega (arith, m, counted))));
+        (are.nested i j no_words l (omega (arith, m, counted))));
     printed_last = λ earlier w e.
         let m : ℕ = length earlier in
         let size : suc m ≡ length watched = omega (arith, ap length e, counted, length-append {A = Printed} earlier (w ∷ [])) in
@@ -96,11 +92,11 @@ module _ (plan : PlanLists) (s wanted : ℕ) (outer : WordBracket) (watched : Li
         ∙ ap printed_of (are.last (take m watched) (get_or watched m no_words) (last_front watched m no_words size));
   }
 
-  -- so they are those of the watched state, where its bracket is the one that one thread computes
+  -- so they are those of the watched state, where these are the words of its bracket
   pub taken_of : (options : Options) (states : List Printed) → options.watch ≡ wanted
-      → ((printed : Printed) → slice_get states options.state ≡ Some printed → printed ≡ printed_of (one_thread_words plan s))
+      → ((printed : Printed) → slice_get states options.state ≡ Some printed → printed ≡ printed_of words)
       → AreTakenOf options states (printed_brackets watched)
   taken_of options states many here = record {
-    counted = length-map watched print ∙ are.count ∙ sym many;
+    counted = length-map watched print ∙ are.counted ∙ sym many;
     taken = λ printed e. subst (λ p. AreTaken p (printed_brackets watched)) (sym (here printed e)) taken_printed;
   }

@@ -1,5 +1,5 @@
 -- When the answer to a formula is exact: what a reader may rely on, whatever was computed.
-use Rattle.std.specs.Prelude.{◌≡◌, ◌≢◌, ℕ, ◌<◌, Bool, not, IsTrue, List, [], length, All, Some, None, slice_get, IsSomeAnd, ⊤}
+use Rattle.std.specs.Prelude.{◌≡◌, ℕ, ◌<◌, ◌⊎◌, Bool, not, IsTrue, List, [], length, All, Some, None, slice_get, IsSomeAnd, ⊤}
 use Rattle.ctmc_semantics.specs.Bracket.{Bracket, printed_bracket, ContainsProbability, ContainsFrom, ContainsLimit}
 use Rattle.ctmc_semantics.specs.Chain.{Chain}
 use Rattle.ctmc_semantics.specs.Fraction.{Fraction, decimal_fraction}
@@ -20,6 +20,7 @@ use Rattle.report.specs.Answer.{AnswerLists}
 use Rattle.report.specs.declared.answer.Printed.{Printed}
 use Rattle.report.specs.declared.answer.Verdict.{Verdict}
 use Rattle.report.specs.declared.answer.Verdict.TheVariants.{Satisfied, Refuted, Undecided}
+use Rattle.nested_verdict.specs.EarlyEnd.{AreDecided, MayEndEarly}
 use Rattle.nested_verdict.specs.ExactState.{AreNarrow, IsExactNext, IsExactUntil, IsNearReach, IsNearTime}
 use Rattle.nested_verdict.specs.FormulaAnswer.{verdicts_answer}
 use Rattle.nested_verdict.specs.NextAnswer.{next_bracket}
@@ -40,10 +41,6 @@ pub record AreSo (over : LabelledChain) (f : Tree) (verdicts : List Verdict) : T
   pub each_state : length verdicts ≡ over.chain.states
   pub so : (xs : List Bool) → IsSat over f xs → (s : ℕ) → s < over.chain.states
       → IsSomeAnd (slice_get verdicts s) (IsSo (holds_at xs s))
-
--- no state is left undecided
-abbrev pub AreDecided : List Verdict → Type 0
-AreDecided verdicts = All (λ verdict. verdict ≢ Undecided) verdicts
 
 -- no state is left undecided, and no bracket is shown
 pub record IsDecided (answer : AnswerLists) : Type 0 where
@@ -84,8 +81,13 @@ IsOutOfReach chain live goal s = ¬ Walk chain.states chain.rate live goal s
 abbrev pub ForEach : LabelledChain → Tree → Tree → ((ℕ → Bool) → (ℕ → Bool) → ℕ → ℕ → Fraction) → ℕ → ((ℕ → Fraction) → Type 0) → Type 0
 ForEach over f g values s P = (ys zs : List Bool) → IsSat over f ys → IsSat over g zs → P (values (holds_at ys) (holds_at zs) s)
 
+-- the words are near, unless the run ended early
+abbrev pub IsNearUnless : Type 0 → (WordBracket → Type 0) → WordBracket → Type 0
+IsNearUnless ended IsNear words = ended ⊎ IsNear words
+
 -- the answer to an until over operands of which `sets` tell: the jumps that were looked at are told, each state's answer is exact, and the
--- brackets of the watched state are. `values` are what the operands' lists give, and `Contains b x` is what it is for b to contain values x
+-- brackets of the watched state are. `values` are what the operands' lists give, and `Contains b x` is what it is for b to contain values x.
+-- Where the run may have ended early, the words behind the printed numbers may be far apart
 pub record ShowsUntil (over : LabelledChain) (options : Options) (f g : Tree) (sets : KnownSets) (by : Comparison) (last : ℕ)
     (values : (ℕ → Bool) → (ℕ → Bool) → ℕ → ℕ → Fraction) (Contains : Bracket → (ℕ → Fraction) → Type 0)
     (AreNear : ℕ → WordBracket → Type 0) (q : Fraction) (answer : AnswerLists) : Type 0 where
@@ -93,7 +95,8 @@ pub record ShowsUntil (over : LabelledChain) (options : Options) (f g : Tree) (s
   pub states : List Printed
   pub shown : answer.shown ≡ Some (record { horizon = Some last; watched = watched; states = states })
   pub exact : AreExactAt over.chain.states
-      (λ s. IsExactUntil by (ForEach over f g values s) (λ b. ForEach over f g values s (Contains b)) (AreNear s) (IsTrue (sets.goal_must s))
+      (λ s. IsExactUntil by (ForEach over f g values s) (λ b. ForEach over f g values s (Contains b))
+      (IsNearUnless (MayEndEarly options answer.verdicts) (AreNear s)) (IsTrue (sets.goal_must s))
       (IsOutOfReach over.chain sets.live_may sets.goal_may s) q) answer.verdicts states
   pub watches : IsSomeAnd (slice_get states options.state)
       (λ printed. AreWatched options.watch (λ b. ForEach over f g values options.state (Contains b)) printed watched)

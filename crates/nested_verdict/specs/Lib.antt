@@ -1,4 +1,5 @@
 pub mod ThreeValues
+pub mod EarlyEnd
 pub mod ExactState
 pub mod ExactAnswer
 -- what is computed
@@ -9,8 +10,10 @@ pub mod UntilAnswer
 pub mod FormulaAnswer
 pub mod UnwatchedAnswer
 pub mod WatchedBrackets
+pub mod EarlyAnswer
+pub mod FixedAnswer
 -- what the functions' own steps say
 pub mod Operators
 pub mod Ends
-pub mod OneThread
+pub mod UntilBrackets
 pub mod PlanFault

@@ -12,11 +12,10 @@ use Rattle.command_words.specs.declared.command.Options.{Options}
 use Rattle.csl_semantics.specs.Meaning.{load_of}
 use Rattle.csl_syntax.specs.declared.formula.Bound.{Bound}
 use Rattle.csl_syntax.specs.declared.formula.Bound.TheVariants.{Unbounded, Time, Reward}
-use Rattle.mix_columns.specs.Mixed.{one_thread_words, words_of}
+use Rattle.mix_columns.specs.Mixed.{words_of}
 use Rattle.mix_columns.specs.SideBySide.{bracket_at}
 use Rattle.model_core.specs.Model.{LabelledChain}
 use Rattle.report.specs.declared.answer.Printed.{Printed}
-use Rattle.step_core.specs.PlanLists.{PlanLists}
 use Rattle.step_core.specs.WalkFound.{can_reach}
 use Rattle.step_core.specs.declared.bracket.Bracket.{Bracket}
 use Rattle.nested_verdict.specs.UntilPlan.{dual_by, load_by}
@@ -54,10 +53,6 @@ first_answers words by q n = map (λ s. words_answer by (words s) q) (range_with
 -- the answers at all states
 abbrev pub until_answers : LabelledChain → Options → Bound → KnownSets → Comparison → Fraction → List StateAnswer
 until_answers over options bound sets by q = first_answers (state_words over options bound sets) by q over.chain.states
-
--- the answers at all states of a plan
-abbrev pub plan_answers : PlanLists → Comparison → Fraction → List StateAnswer
-plan_answers plan by q = first_answers (one_thread_words plan) by q (length plan.frame.rows)
 
 -- the words of a state, where the brackets of all states are listed
 abbrev pub listed_words : List Bracket → ℕ → WordBracket

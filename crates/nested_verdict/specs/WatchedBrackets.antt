@@ -26,13 +26,7 @@ AreWatchedBy options (Some last) states watched = AreTakenOf options states watc
 
 -- the options, with so many brackets of the watched state
 abbrev pub watching : Options → ℕ → Options
-watching options count = record {
-  workers = options.workers;
-  bits = options.bits;
-  jumps = options.jumps;
-  watch = count;
-  state = options.state;
-}
+watching options count = record options { watch = count }
 
 -- the answer has the brackets of the watched state that it should
 abbrev pub IsWatched : Options → AnswerLists → Type 0

@@ -5,6 +5,7 @@ ghost use Rattle.csl_syntax.specs.Tree.{tree_of, IsOver};
 ghost use Rattle.model_core.specs.Model.{labelled_chain};
 ghost use Rattle.report.specs.Answer.{answer_lists};
 ghost use Rattle.report.specs.AnswerText.{IsWritable};
+ghost use Rattle.nested_verdict.specs.EarlyAnswer.{IsAnswerTo};
 ghost use Rattle.nested_verdict.specs.ExactAnswer.{IsExactAnswer};
 ghost use Rattle.nested_verdict.specs.FormulaAnswer.{formula_answer, first_refusal};
 ghost use Rattle.nested_verdict.specs.Operators.{is_connective};
@@ -32,9 +33,13 @@ use step_core::PlanError;
 /// in this order that has no plan refuses the formula, and `Memory` comes for want of memory alone.
 /// Brackets are shown where the formula itself is a probability operator, in units of `10^-12`. While
 /// its own until is computed, `options.watch` brackets are taken of `options.state`; operators inside
-/// others aren't watched. Number of workers and gate change none of the rest. (Meaning and algorithm:
-/// Baier, Haverkort, Hermanns, Katoen, Model-checking algorithms for continuous-time Markov chains,
-/// 2003; three values: Kleene, Introduction to Metamathematics, 1952)
+/// others aren't watched.
+///
+/// With `options.until_decided` the run of an until may end as soon as the verdict of each state is
+/// known. The verdicts are those of the whole run, and so are the brackets where a state is left
+/// undecided; else they may be wider. Number of workers and gate change none of the rest. (Meaning and
+/// algorithm: Baier, Haverkort, Hermanns, Katoen, Model-checking algorithms for continuous-time Markov
+/// chains, 2003; three values: Kleene, Introduction to Metamathematics, 1952)
 pub fn check<R: Threads + Sync, G: Gate>(
     rt: &R,
     alloc: Global,
@@ -46,8 +51,8 @@ pub fn check<R: Threads + Sync, G: Gate>(
     requires over { IsOver (length model.now.names) (tree_of formula.now) }
     requires options { AreInRange options.now }
     requires state { options.now.state < model.now.n }
-    ensures answer { IfOk result (λ answer. unwatched_answer (answer_lists answer)
-        ≡ formula_answer (labelled_chain model.now) options.now (tree_of formula.now)) }
+    ensures answer { IfOk result (λ answer. IsAnswerTo options.now
+        (formula_answer (labelled_chain model.now) options.now (tree_of formula.now)) (unwatched_answer (answer_lists answer))) }
     ensures watched { IfOk result (λ answer. IsWatched options.now (answer_lists answer)) }
     ensures exact { IfOk result (λ answer. IsExactAnswer (labelled_chain model.now) options.now (tree_of formula.now) (answer_lists answer)) }
     ensures accepted { IfOk result (λ _. first_refusal (labelled_chain model.now) options.now (tree_of formula.now) ≡ None) }
@@ -135,9 +140,11 @@ fn operator_answer<R: Threads + Sync, G: Gate>(
     requires options { AreInRange options.now }
     requires state { options.now.state < model.now.n }
     requires watch { watch ≤ 1000 }
-    ensures answer { IfOk result (λ answer. unwatched_answer (answer_lists answer)
-        ≡ formula_answer (labelled_chain model.now) options.now (tree_of formula.now)) }
+    ensures answer { IfOk result (λ answer. IsAnswerTo options.now
+        (formula_answer (labelled_chain model.now) options.now (tree_of formula.now)) (unwatched_answer (answer_lists answer))) }
     ensures watched { IfOk result (λ answer. IsWatched (watching options.now watch) (answer_lists answer)) }
+    ensures exact { IfOk result (λ answer. IsExactAnswer (labelled_chain model.now) (watching options.now watch) (tree_of formula.now)
+        (answer_lists answer)) }
     ensures accepted { IfOk result (λ _. first_refusal (labelled_chain model.now) options.now (tree_of formula.now) ≡ None) }
     ensures refused { (refusal : PlanError) → result ≡ Err (CheckFault.Refused refusal)
         → first_refusal (labelled_chain model.now) options.now (tree_of formula.now) ≡ Some refusal }

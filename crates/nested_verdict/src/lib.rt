@@ -7,6 +7,7 @@ mod checking;
 mod next_states;
 mod operator_answers;
 mod state_answer;
+mod threshold;
 mod until_brackets;
 mod until_plan;
 mod until_states;

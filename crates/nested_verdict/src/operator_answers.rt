@@ -8,8 +8,7 @@ ghost use Rattle.report.specs.Answer.{answer_lists};
 ghost use Rattle.report.specs.AnswerText.{IsWritable};
 ghost use Rattle.step_core.specs.SoundPlan.{IsSoundPlan};
 ghost use Rattle.nested_verdict.specs.FormulaAnswer.{next_states, shown_answer};
-ghost use Rattle.nested_verdict.specs.UntilAnswer.{plan_answers};
-ghost use Rattle.nested_verdict.specs.UnwatchedAnswer.{unwatched_answer};
+ghost use Rattle.nested_verdict.specs.UntilBrackets.{ShowsUntilAnswers};
 ghost use Rattle.nested_verdict.specs.WatchedBrackets.{IsWatched};
 
 use crate::next_states::check_next;
@@ -59,8 +58,8 @@ pub(crate) fn until_answer<R: Threads + Sync, G: Gate>(
     requires cells { (plan.layers + 1) * length plan.frame.rows ≤ 8388608 }
     requires options { AreInRange options.now }
     requires state { options.now.state < length plan.frame.rows }
-    ensures answer { IfOk result (λ answer. unwatched_answer (answer_lists answer)
-        ≡ shown_answer (Some plan.layers) [] (plan_answers plan (comparison_of op) (decimal_fraction threshold.c threshold.x))) }
+    ensures answer { IfOk result (λ answer. ShowsUntilAnswers plan options.now.until_decided (comparison_of op)
+        (decimal_fraction threshold.c threshold.x) (answer_lists answer)) }
     ensures watched { IfOk result (λ answer. IsWatched options.now (answer_lists answer)) }
     ensures writable { IfOk result (λ answer. IsWritable (answer_lists answer)) }
 {

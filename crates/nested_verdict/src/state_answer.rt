@@ -92,9 +92,16 @@ pub(crate) fn printed_words(words: Bracket) -> Printed
     printed(Ends::of_words(words))
 }
 
+/// What the words show of the threshold.
+pub(crate) fn words_verdict(words: Bracket, op: Op, threshold: Decimal) -> Verdict
+    ensures { result ≡ bracket_verdict (comparison_of op) (word_bracket (words_of words)) (decimal_fraction threshold.c threshold.x) }
+{
+    ends_verdict(Ends::of_words(words), op, threshold)
+}
+
 // What the ends show of the threshold.
 fn ends_verdict(ends: Ends, op: Op, threshold: Decimal) -> Verdict
-    requires probabilities { AreProbabilities ends }
+    requires positive { 0 < ends.den }
     ensures { result ≡ bracket_verdict (comparison_of op) (ends_bracket ends) (decimal_fraction threshold.c threshold.x) }
 {
     let lower = cmp_frac(ends.lower, ends.den, threshold.c, threshold.x);

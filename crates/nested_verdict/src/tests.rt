@@ -1,5 +1,6 @@
 // Answers to formulas over small models, and what is asserted of them.
 mod connectives;
+mod early;
 mod faults;
 mod gates;
 mod left_open;
@@ -40,6 +41,7 @@ const PLAIN: Options = Options {
     jumps: 512,
     watch: 0,
     state: 0,
+    until_decided: false,
 };
 
 const SATISFIED: Verdict = Verdict::Satisfied;

@@ -1,17 +1,22 @@
 // The brackets of all states of an until, by its plan.
 
-ghost use Rattle.std.specs.Prelude.{◌+◌, ◌*◌, ◌<◌, ◌≤◌, IfOk, length};
-ghost use Rattle.bound_grid.specs.Passes.{IsPassOf, notes_of};
-ghost use Rattle.bound_grid.specs.SealNotes.{NotesAll};
-ghost use Rattle.column_workers.specs.Watched.{AreWatched};
-ghost use Rattle.ctmc_semantics.specs.WordBracket.{WordBracket};
-ghost use Rattle.nested_verdict.specs.OneThread.{AreOneThread};
+ghost use Rattle.std.specs.Prelude.{◌≡◌, ◌+◌, ◌*◌, ◌<◌, ◌≤◌, ◌⊎◌, IfOk, length};
+ghost use Rattle.command_words.specs.Laws.{AreInRange};
+ghost use Rattle.csl_semantics.specs.Meaning.{comparison_of};
+ghost use Rattle.ctmc_semantics.specs.Fraction.{decimal_fraction};
+ghost use Rattle.nested_verdict.specs.UntilAnswer.{listed_words};
+ghost use Rattle.nested_verdict.specs.UntilBrackets.{AllDecide, AreTakenOfState, AreUntilBrackets, EnclosesOneThread};
+ghost use Rattle.reader_pass.specs.StateBrackets.{AreBrackets, AreOneThread};
 ghost use Rattle.step_core.specs.SoundPlan.{IsSoundPlan};
 
-use bound_grid::{Board, Pass};
-use column_workers::{RunEnd, run};
+use crate::threshold::Threshold;
+use bound_grid::Board;
+use column_workers::{RunEnd, Stopped, run, run_until};
+use command_words::Options;
+use csl_syntax::Op;
+use decimal_text::Decimal;
 use outside::Gate;
-use reader_pass::read;
+use reader_pass::read_states;
 use std::alloc::{AllocError, Global};
 use std::thread::Threads;
 use step_core::{Bracket, Plan, Watch};
@@ -26,37 +31,49 @@ pub(crate) struct UntilBrackets {
 
 /// The brackets of all states.
 ///
-/// Several workers, or a reader beside one, share a board. One worker whom nobody watches shares
-/// nothing, and keeps two layers. The brackets are the same.
+/// Workers share a board. One worker whom nobody watches shares nothing, and keeps two layers; the
+/// brackets are the same. Where `options.until_decided` is set, the run ends as soon as each bracket
+/// decides the threshold, and takes a board for that.
 pub(crate) fn until_brackets<R: Threads + Sync, G: Gate>(
     rt: &R,
     alloc: Global,
     plan: Plan,
-    workers: u32,
-    watch: Watch,
+    op: Op,
+    threshold: Decimal,
+    options: &Options,
     gate: &G,
 ) -> Result<UntilBrackets, AllocError>
     requires sound { IsSoundPlan plan }
     requires cells { (plan.layers + 1) * length plan.frame.rows ≤ 8388608 }
-    requires some { 1 ≤ workers }
-    requires few { workers ≤ 64 }
-    requires state { watch.state < length plan.frame.rows }
-    requires few_brackets { watch.count ≤ 1000 }
-    ensures states { IfOk result (λ b. AreOneThread plan b.states.items) }
-    ensures watched { IfOk result (λ b. (outer : WordBracket) × AreWatched plan watch.state watch.count outer b.watched.items) }
+    requires options { AreInRange options.now }
+    requires state { options.now.state < length plan.frame.rows }
+    ensures states { IfOk result (λ b. AreUntilBrackets plan options.now.until_decided (comparison_of op)
+        (decimal_fraction threshold.c threshold.x) b.states.items) }
+    ensures watched { IfOk result (λ b. AreTakenOfState options.now.watch (listed_words b.states.items options.now.state) b.watched.items) }
 {
-    if workers == 1 && watch.count == 0 {
-        let states = window_brackets(alloc, &plan)?;
-        return Ok(UntilBrackets {
-            states,
-            watched: Vec::new(alloc),
-        });
+    let watch = Watch {
+        state: options.state,
+        count: options.watch,
+    };
+    if options.until_decided {
+        let until = Threshold {
+            op,
+            limit: threshold,
+        };
+        return early_brackets(rt, alloc, plan, options.workers, watch, gate, &until);
     }
-    raced_brackets(rt, alloc, plan, workers, watch, gate)
+    if options.workers > 1 || options.watch > 0 {
+        return whole_brackets(rt, alloc, plan, options.workers, watch, gate);
+    }
+    let states = window_brackets(alloc, &plan)?;
+    Ok(UntilBrackets {
+        states,
+        watched: Vec::new(alloc),
+    })
 }
 
-// The brackets by workers that share a board.
-fn raced_brackets<R: Threads + Sync, G: Gate>(
+// The brackets by workers that share a board, until all its words are final.
+fn whole_brackets<R: Threads + Sync, G: Gate>(
     rt: &R,
     alloc: Global,
     plan: Plan,
@@ -71,27 +88,44 @@ fn raced_brackets<R: Threads + Sync, G: Gate>(
     requires state { watch.state < length plan.frame.rows }
     requires few_brackets { watch.count ≤ 1000 }
     ensures states { IfOk result (λ b. AreOneThread plan b.states.items) }
-    ensures watched { IfOk result (λ b. (outer : WordBracket) × AreWatched plan watch.state watch.count outer b.watched.items) }
+    ensures watched { IfOk result (λ b. AreTakenOfState watch.count (listed_words b.states.items watch.state) b.watched.items) }
 {
+    let mut states = Vec::with_capacity(alloc, plan.frame.rows.len())?;
     let (board, pass) = Board::open(alloc, plan)?;
-    let RunEnd { pass, watched } = run(rt, alloc, &board, pass, workers, watch, gate)?;
-    let states = read_states(alloc, &board, pass)?;
+    let RunEnd { mut pass, watched } = run(rt, alloc, &board, pass, workers, watch, gate)?;
+    read_states(&board, &mut pass, &mut states);
     Ok(UntilBrackets { states, watched })
 }
 
-// The brackets of all states, by a pass that knows every seal.
-fn read_states(alloc: Global, board: &Board, mut pass: Pass) -> Result<Vec<Bracket>, AllocError>
-    requires sound { IsSoundPlan board.now.plan }
-    requires pass { IsPassOf board.now pass }
-    requires sealed { NotesAll board.now.plan (notes_of pass) }
-    ensures { IfOk result (λ brackets. AreOneThread board.now.plan brackets.items) }
+// The brackets by workers that share a board, until each of them decides the threshold.
+fn early_brackets<R: Threads + Sync, G: Gate>(
+    rt: &R,
+    alloc: Global,
+    plan: Plan,
+    workers: u32,
+    watch: Watch,
+    gate: &G,
+    until: &Threshold,
+) -> Result<UntilBrackets, AllocError>
+    requires sound { IsSoundPlan plan }
+    requires cells { (plan.layers + 1) * length plan.frame.rows ≤ 8388608 }
+    requires some { 1 ≤ workers }
+    requires few { workers ≤ 64 }
+    requires state { watch.state < length plan.frame.rows }
+    requires few_brackets { watch.count ≤ 1000 }
+    ensures enclose { IfOk result (λ b. AreBrackets plan (EnclosesOneThread plan) b.states.items) }
+    ensures ended { IfOk result (λ b. AllDecide (comparison_of until.now.op)
+        (decimal_fraction until.now.limit.c until.now.limit.x) b.states.items ⊎ AreOneThread plan b.states.items) }
+    ensures watched { IfOk result (λ b. AreTakenOfState watch.count (listed_words b.states.items watch.state) b.watched.items) }
 {
-    let plan = board.plan();
-    let frame = &plan.frame;
-    let states = frame.rows.len();
-    let mut brackets = Vec::with_capacity(alloc, states)?;
-    for s in 0..states {
-        brackets.push(read(board, &mut pass, s as u32))?;
-    }
-    Ok(brackets)
+    let (board, pass) = Board::open(alloc, plan)?;
+    let Stopped {
+        pass: _,
+        brackets,
+        watched,
+    } = run_until(rt, alloc, &board, pass, workers, watch, gate, until)?;
+    Ok(UntilBrackets {
+        states: brackets,
+        watched,
+    })
 }

@@ -5,7 +5,8 @@ ghost use Rattle.csl_semantics.specs.Meaning.{comparison_of};
 ghost use Rattle.ctmc_semantics.specs.Fraction.{decimal_fraction};
 ghost use Rattle.step_core.specs.SoundPlan.{IsSoundPlan};
 ghost use Rattle.report.specs.AnswerText.{IsPrintable};
-ghost use Rattle.nested_verdict.specs.UntilAnswer.{plan_answers, bracket_answers, printed_brackets};
+ghost use Rattle.nested_verdict.specs.UntilAnswer.{bracket_answers, printed_brackets};
+ghost use Rattle.nested_verdict.specs.UntilBrackets.{AreUntilAnswers};
 ghost use Rattle.nested_verdict.specs.WatchedBrackets.{AreTakenOf};
 
 use crate::state_answer::{StateAnswer, printed_words, words_answer};
@@ -18,7 +19,7 @@ use report::Printed;
 use round_out::ONE;
 use std::alloc::{AllocError, Global};
 use std::thread::Threads;
-use step_core::{Bracket, Plan, Watch};
+use step_core::{Bracket, Plan};
 
 /// The answer at each state, and the brackets of the watched state in the order in which they were
 /// taken.
@@ -42,17 +43,13 @@ pub(crate) fn check_until<R: Threads + Sync, G: Gate>(
     requires cells { (plan.layers + 1) * length plan.frame.rows ≤ 8388608 }
     requires options { AreInRange options.now }
     requires state { options.now.state < length plan.frame.rows }
-    ensures answers { IfOk result (λ until. until.states.items
-        ≡ plan_answers plan (comparison_of op) (decimal_fraction threshold.c threshold.x)) }
+    ensures answers { IfOk result (λ until. AreUntilAnswers plan options.now.until_decided (comparison_of op)
+        (decimal_fraction threshold.c threshold.x) until.states.items) }
     ensures watched { IfOk result (λ until. AreTakenOf options.now (map (λ a. a.bracket) until.states.items) until.watched.items) }
     ensures printable { IfOk result (λ until. All (λ a. IsPrintable a.bracket) until.states.items) }
     ensures watched_printable { IfOk result (λ until. All IsPrintable until.watched.items) }
 {
-    let watch = Watch {
-        state: options.state,
-        count: options.watch,
-    };
-    let brackets = until_brackets(rt, alloc, plan, options.workers, watch, gate)?;
+    let brackets = until_brackets(rt, alloc, plan, op, threshold, options, gate)?;
     let states = bracket_answers(alloc, &brackets.states, op, threshold)?;
     let watched = printed_brackets(alloc, &brackets.watched)?;
     Ok(UntilStates { states, watched })

@@ -1,4 +1,4 @@
-pub mod Unwatched
+pub mod FilledAnswers
 pub mod Readings
 pub mod Said
 pub mod Commands

@@ -1,14 +1,15 @@
--- Words, files and formulas have one outcome at most, but for the brackets of the watched state.
-use Rattle.std.proofs.Common.{◌≡◌, ℕ, ◌≤◌, List, ◌++◌, length, Option, Some, None, IsNone, IfSome, refl, sym, ap, ◌∙◌, subst, arith, append-nil, length-append}
+-- Words, files and formulas have one outcome at most, but for what isn't fixed of it.
+use Rattle.std.proofs.Common.{◌≡◌, ℕ, ◌≤◌, false, List, ◌++◌, length, Option, Some, None, IsNone, IfSome, refl, sym, ap, ◌∙◌, subst, arith, append-nil, length-append}
 use Rattle.std.specs.Io.KnownBytes.{Consumes, IsAtEnd}
 use Rattle.std.proofs.lemmas.Bool.{false≢true}
 use Rattle.command_words.specs.Command.{Spoken}
 use Rattle.outside.specs.Shelf.{Pair}
+use Rattle.session.specs.Command.{IsCommandOf, Say}
 use Rattle.session.specs.FormulaLines.{formula_lines}
-use Rattle.session.specs.Laws.{WatchNothing}
-use Rattle.session.specs.LineReply.{NumberedReply, AreReplies, unwatched_replies}
+use Rattle.session.specs.Laws.{NeverEndEarly, WatchNothing}
+use Rattle.session.specs.LineReply.{NumberedReply, AreReplies, fixed_replies}
 use Rattle.session.specs.ModelFiles.{IsFileFaulty, TakesModel, model_of}
-use Rattle.session.specs.Outcome.{Outcome, Usage, Faulty, FormulasLong, Replies, TakesInput, TakesTooMuch, HasReplies, IsOutcomeOf, IsOutcome, unwatched_outcome}
+use Rattle.session.specs.Outcome.{Outcome, Usage, Faulty, FormulasLong, Replies, TakesInput, TakesTooMuch, HasReplies, IsOutcomeOf, IsOutcome, AreAlike, fixed_outcome}
 use Rattle.report.specs.declared.model_fault.ModelFault.{ModelFault}
 use Rattle.session.proofs.Commands.{same_command}
 use Rattle.session.proofs.LineReplies.{one_list, whole_replies}
@@ -47,7 +48,7 @@ module _ (pairs : List Pair) (left : List ℕ) (u v : Option (List ℕ)) where
     no_fault fault p model = no_model_fault pairs command model fault.file fault.line fault.what p
 
     same_replies : (xs ys : List NumberedReply) → HasReplies command (Some pairs) (Some left) u xs
-        → HasReplies command (Some pairs) (Some left) v ys → unwatched_replies xs ≡ unwatched_replies ys
+        → HasReplies command (Some pairs) (Some left) v ys → fixed_replies command.options xs ≡ fixed_replies command.options ys
     same_replies xs ys p q =
         let over = sym (one_chain pairs command p.model q.model) in
         let input = sym (one_input left u v p.input q.input) in
@@ -57,8 +58,8 @@ module _ (pairs : List Pair) (left : List ℕ) (u v : Option (List ℕ)) where
 
 pub one_outcome : (pairs : List Pair) (left : List ℕ) (u v : Option (List ℕ)) (command : Option Spoken) (a b : Outcome)
     → IsOutcomeOf command (Some pairs) (Some left) u a → IsOutcomeOf command (Some pairs) (Some left) v b
-    → unwatched_outcome a ≡ unwatched_outcome b
-one_outcome pairs left u v None a b p q = ap unwatched_outcome (no_command pairs left u v a p ∙ sym (no_command pairs left v u b q))
+    → AreAlike command a b
+one_outcome pairs left u v None a b p q = no_command pairs left u v a p ∙ sym (no_command pairs left v u b q)
 one_outcome pairs left u v (Some c) Usage b p q = absurd (is_some c p.0)
 one_outcome pairs left u v (Some c) (Faulty a) Usage p q = absurd (is_some c q.0)
 one_outcome pairs left u v (Some c) (Faulty a) (Faulty b) p q = ap Faulty (one_model_fault pairs c a b p.0 q.0)
@@ -73,39 +74,45 @@ one_outcome pairs left u v (Some c) (Replies xs) (Faulty b) p q = absurd (no_fau
 one_outcome pairs left u v (Some c) (Replies xs) FormulasLong p q = absurd (not_too_much left u v p.input q.long)
 one_outcome pairs left u v (Some c) (Replies xs) (Replies ys) p q = ap Replies (same_replies pairs left u v c xs ys p q)
 
--- words, files and formulas have one outcome at most, but for the brackets of the watched state
+-- words, files and formulas have one outcome at most, but for what isn't fixed of it
 pub same_outcome : (words : List (List ℕ)) (pairs : List Pair) (left : List ℕ) (u v : Option (List ℕ)) (a b : Outcome)
     → IsOutcome words (Some pairs) (Some left) u a → IsOutcome words (Some pairs) (Some left) v b
-    → unwatched_outcome a ≡ unwatched_outcome b
+    → Say words (λ command. AreAlike command a b)
 same_outcome words pairs left u v a b p q =
     let command = same_command words q.command p.command q.said p.said in
-    one_outcome pairs left u v p.command a b p.holds (subst (λ c. IsOutcomeOf c (Some pairs) (Some left) v b) command q.holds)
+    record {
+      command = p.command;
+      said = p.said;
+      holds = one_outcome pairs left u v p.command a b p.holds (subst (λ c. IsOutcomeOf c (Some pairs) (Some left) v b) command q.holds);
+    }
 
--- ---- where no state is watched
+-- ---- where no state is watched and no run may end early
 module _ (pairs : List Pair) (left : List ℕ) (u : Option (List ℕ)) where
-  whole_of : (command : Spoken) (a : Outcome) → command.options.watch ≡ 0 → IsOutcomeOf (Some command) (Some pairs) (Some left) u a
-      → unwatched_outcome a ≡ a
-  whole_of command Usage none h = refl
-  whole_of command (Faulty fault) none h = refl
-  whole_of command FormulasLong none h = refl
-  whole_of command (Replies replies) none h =
-      ap Replies (whole_replies (model_of h.model) command.options none (formula_lines h.input.bytes) replies h.are)
+  whole_of : (command : Spoken) (a : Outcome) → command.options.watch ≡ 0 → command.options.until_decided ≡ false
+      → IsOutcomeOf (Some command) (Some pairs) (Some left) u a → fixed_outcome command.options a ≡ a
+  whole_of command Usage none never h = refl
+  whole_of command (Faulty fault) none never h = refl
+  whole_of command FormulasLong none never h = refl
+  whole_of command (Replies replies) none never h =
+      ap Replies (whole_replies (model_of h.model) command.options none never (formula_lines h.input.bytes) replies h.are)
 
-  whole_outcome : (command : Option Spoken) (a : Outcome) → IfSome command (λ c. c.options.watch ≡ 0)
-      → IsOutcomeOf command (Some pairs) (Some left) u a → unwatched_outcome a ≡ a
-  whole_outcome None a none h = ap unwatched_outcome (no_command pairs left u u a h) ∙ sym (no_command pairs left u u a h)
-  whole_outcome (Some command) a none h = whole_of command a none h
-
-  pub whole_of_words : (words : List (List ℕ)) (a : Outcome) → WatchNothing words → IsOutcome words (Some pairs) (Some left) u a
-      → unwatched_outcome a ≡ a
-  whole_of_words words a none h =
-      whole_outcome h.command a
-      (subst (λ c. IfSome c (λ (x : Spoken). x.options.watch ≡ 0)) (same_command words none.command h.command none.said h.said) none.holds)
-      h.holds
+-- outcomes that are alike are the same
+alike_same : (pairs : List Pair) (left : List ℕ) (u v : Option (List ℕ)) (command : Option Spoken) (a b : Outcome)
+    → IfSome command (λ c. c.options.watch ≡ 0) → IfSome command (λ c. c.options.until_decided ≡ false)
+    → IsOutcomeOf command (Some pairs) (Some left) u a → IsOutcomeOf command (Some pairs) (Some left) v b → AreAlike command a b → a ≡ b
+alike_same pairs left u v None a b none never p q alike = alike
+alike_same pairs left u v (Some c) a b none never p q alike =
+    sym (whole_of pairs left u c a none never p) ∙ (alike ∙ whole_of pairs left v c b none never q)
 
 -- then words, files and formulas have one outcome at most
 pub one_unwatched : (words : List (List ℕ)) (pairs : List Pair) (left : List ℕ) (u v : Option (List ℕ)) (a b : Outcome)
-    → WatchNothing words → IsOutcome words (Some pairs) (Some left) u a → IsOutcome words (Some pairs) (Some left) v b → a ≡ b
-one_unwatched words pairs left u v a b none p q =
-    sym (whole_of_words pairs left u words a none p) ∙ same_outcome words pairs left u v a b p q
-    ∙ whole_of_words pairs left v words b none q
+    → WatchNothing words → NeverEndEarly words → IsOutcome words (Some pairs) (Some left) u a
+    → IsOutcome words (Some pairs) (Some left) v b → a ≡ b
+one_unwatched words pairs left u v a b none never p q =
+    let told : (c : Option Spoken) → IsCommandOf words c → c ≡ p.command = λ c said. same_command words c p.command said p.said in
+    alike_same pairs left u v p.command a b
+    (subst (λ c. IfSome c (λ (x : Spoken). x.options.watch ≡ 0)) (told none.command none.said) none.holds)
+    (subst (λ c. IfSome c (λ (x : Spoken). x.options.until_decided ≡ false)) (told never.command never.said) never.holds) p.holds
+    (subst (λ c. IsOutcomeOf c (Some pairs) (Some left) v b) (told q.command q.said) q.holds)
+    (one_outcome pairs left u v p.command a b p.holds
+    (subst (λ c. IsOutcomeOf c (Some pairs) (Some left) v b) (told q.command q.said) q.holds))

@@ -1,8 +1,9 @@
 -- The replies that are written, a line after the other.
-use Rattle.std.proofs.Common.{◌≡◌, ℕ, Bool, true, false, ◌&&◌, List, [], ◌∷◌, ◌++◌, Option, refl, sym, ap, ◌∙◌, subst, append_assoc, append-nil}
+use Rattle.std.proofs.Common.{◌≡◌, ℕ, ◌<◌, Bool, true, false, ◌&&◌, List, [], ◌∷◌, ◌++◌, Option, refl, sym, ap, ◌∙◌, subst, append_assoc, append-nil}
 use Rattle.std.proofs.KnownBytes.{Appends-nil, Appends-trans}
 use Rattle.std.specs.Io.KnownBytes.{Appends}
 use Rattle.std.specs.List.{AllZip}
+use Rattle.command_words.specs.Laws.{AreInRange}
 use Rattle.command_words.specs.declared.command.Options.{Options}
 use Rattle.model_core.specs.Model.{LabelledChain}
 use Rattle.outside.specs.Whole.{WritesFront}
@@ -86,10 +87,10 @@ module _ (over : LabelledChain) (options : Options) (input : List ℕ) (before :
     }
 
   -- what is written is a front
-  pub front_replied : (lines : List LineText) (now : Option (List ℕ)) (answered : Bool) → HasReplied lines now answered
-      → WritesFrontOfReplies over options input before now
-  front_replied lines now answered h =
-      let later = some_list over options lines in
+  pub front_replied : AreInRange options → options.state < over.chain.states → (lines : List LineText) (now : Option (List ℕ))
+      (answered : Bool) → HasReplied lines now answered → WritesFrontOfReplies over options input before now
+  front_replied range state lines now answered h =
+      let later = some_list over options range state lines in
       then_front lines now answered h now later.0 later.1 (nothing_written (replies_text later.0) now)
 
   -- all is written where no line is left
@@ -109,9 +110,10 @@ module _ (over : LabelledChain) (options : Options) (input : List ℕ) (before :
     here = subst (λ l. HasReplied l now answered) begins so_far
 
     -- a front of the reply is written
-    pub front_of_next : WritesFrontOfReply over options line now next → WritesFrontOfReplies over options input before next
-    front_of_next w =
-        let later = some_list over options lines in
+    pub front_of_next : AreInRange options → options.state < over.chain.states → WritesFrontOfReply over options line now next
+        → WritesFrontOfReplies over options input before next
+    front_of_next range state w =
+        let later = some_list over options range state lines in
         then_front (line ∷ lines) now answered here next (w.reply ∷ later.0) (w.is, later.1)
         (front_of_first (reply_text w.reply.number w.reply.reply) (replies_text later.0) now next w.front)
 

@@ -28,6 +28,12 @@ module _ (words : List (List ℕ)) (P : Option Spoken → Type 0) where
   told_say files command said h =
       told_names files (P command) (Say words P) (λ p. record { command = command; said = said; holds = p }) h
 
+-- what holds of a read under the command that the words are, said of the words
+pub read_say : (words : List (List ℕ)) (Q : Option Spoken → Prepared → Type 0) (command : Option Spoken) (r : Result Prepared Stop)
+    → IsCommandOf words command → IfOk r (λ prepared. Q command prepared) → IfOk r (λ prepared. Say words (λ c. Q c prepared))
+read_say words Q command (Ok prepared) said h = record { command = command; said = said; holds = h }
+read_say words Q command (Err stop) said h = tt
+
 -- after the formulas all names were asked for
 asks_all : (command : Spoken) (model : ModelLists) (options : Options) (before now : Option (List ℕ)) (prepared : Prepared)
     (old new : List (List ℕ))

@@ -6,7 +6,7 @@ use Rattle.std.specs.List.Sorted.{IsPermutation}
 use Rattle.std.proofs.lemmas.List.Sorted.{sum_by-IsPermutation}
 use Rattle.std.proofs.Common.{rules}
 use Rattle.command_words.specs.Command.{Spoken}
-use Rattle.command_words.proofs.OneCommand.{options_in_range}
+use Rattle.command_words.specs.declared.command.Options.{Options}
 use Rattle.model_core.specs.declared.rate.Rate.{Rate}
 use Rattle.model_core.specs.Model.{LabelledChain, listed_rewards, ModelLists, has_label, model_chain, labelled_chain}
 use Rattle.ctmc_semantics.specs.Chain.{Chain}
@@ -16,13 +16,13 @@ use Rattle.outside.specs.Shelf.{Pair}
 use Rattle.outside.specs.Whole.{WritesFront}
 use Rattle.session.specs.Command.{IsCommandOf, Say, names_of}
 use Rattle.session.specs.ExactReply.{RepliesExactly, RefusesLongInput}
-use Rattle.session.specs.LineReply.{LineReply, Answered, Faulty as NotAFormula, Refused as NoPlan, NumberedReply, AreReplies, all_answered, is_answer, unwatched_reply, unwatched_replies}
+use Rattle.session.specs.LineReply.{LineReply, Answered, Faulty as NotAFormula, Refused as NoPlan, NumberedReply, AreReplies, all_answered, is_answer, fixed_reply, fixed_replies}
 use Rattle.session.specs.FormulaLines.{formula_lines}
 use Rattle.command_words.specs.Words.{AreCommand}
 use Rattle.session.specs.ModelFiles.{IsFileFaulty, model_of}
 use Rattle.session.specs.ReadCause.{HasReadCause}
 use Rattle.report.specs.declared.model_fault.ModelFault.{ModelFault}
-use Rattle.session.specs.Outcome.{Outcome, Usage, Faulty, FormulasLong, Replies, HasReplies, IsOutcome, IsOutcomeOf, outcome_text, outcome_status, unwatched_outcome}
+use Rattle.session.specs.Outcome.{Outcome, Usage, Faulty, FormulasLong, Replies, HasReplies, IsOutcome, IsOutcomeOf, outcome_text, outcome_status, AreAlike, fixed_outcome}
 use Rattle.session.specs.Reading.{IsModelOf, IsInputOf, IsPrepared, IsSaidOf, Writes, WritesFrontOf, WritesReplies, WritesFrontOfReplies, AsksBefore}
 use Rattle.session.specs.Serve.{AnswersExactly, AsksFor, AsksBy, IsAnswering, IsCutShort, IsLostOr, IsUsageOrLost, SaysAlike, names_through}
 use Rattle.session.specs.declared.reading.Input.{Input}
@@ -148,8 +148,7 @@ module _ (words : List (List ℕ)) (files : Option (List Pair)) (left_before lef
         replies = replies;
         printed = printed;
         exact =
-            exact_replies (model_of h.model) c.options (options_in_range words c said) h.model.has_state (formula_lines h.input.bytes)
-            replies h.are;
+            exact_replies (model_of h.model) c.options (formula_lines h.input.bytes) replies h.are;
         is_status = is;
       })
 
@@ -175,22 +174,28 @@ appended : (written text : List ℕ) (now : Option (List ℕ)) → Appends (Some
 appended written text None p = absurd p
 appended written text (Some xs) p = ap Some p
 
--- the status says nothing of the brackets of a watched state
-same_answer : (reply : LineReply) → is_answer (unwatched_reply reply) ≡ is_answer reply
-same_answer (Answered text answer) = refl
-same_answer (NotAFormula fault) = refl
-same_answer (NoPlan refusal) = refl
+-- the status is fixed
+module _ (options : Options) where
+  same_answer : (reply : LineReply) → is_answer (fixed_reply options reply) ≡ is_answer reply
+  same_answer (Answered text answer) = refl
+  same_answer (NotAFormula fault) = refl
+  same_answer (NoPlan refusal) = refl
 
-same_answered : (replies : List NumberedReply) → all_answered (unwatched_replies replies) ≡ all_answered replies
-same_answered [] = refl
-same_answered (r ∷ rs) =
-    ap (λ a. a && all_answered (unwatched_replies rs)) (same_answer r.reply) ∙ ap (λ a. is_answer r.reply && a) (same_answered rs)
+  same_answered : (replies : List NumberedReply) → all_answered (fixed_replies options replies) ≡ all_answered replies
+  same_answered [] = refl
+  same_answered (r ∷ rs) =
+      ap (λ a. a && all_answered (fixed_replies options rs)) (same_answer r.reply) ∙ ap (λ a. is_answer r.reply && a) (same_answered rs)
 
-same_status : (outcome : Outcome) → outcome_status (unwatched_outcome outcome) ≡ outcome_status outcome
-same_status Usage = refl
-same_status (Faulty fault) = refl
-same_status FormulasLong = refl
-same_status (Replies replies) = ap (λ a. if a then status.Done else status.Refused) (same_answered replies)
+  same_status : (outcome : Outcome) → outcome_status (fixed_outcome options outcome) ≡ outcome_status outcome
+  same_status Usage = refl
+  same_status (Faulty fault) = refl
+  same_status FormulasLong = refl
+  same_status (Replies replies) = ap (λ a. if a then status.Done else status.Refused) (same_answered replies)
+
+-- so outcomes that are alike have the same
+alike_status : (command : Option Spoken) (a b : Outcome) → AreAlike command a b → outcome_status a ≡ outcome_status b
+alike_status None a b alike = ap outcome_status alike
+alike_status (Some c) a b alike = sym (same_status c.options a) ∙ (ap outcome_status alike ∙ same_status c.options b)
 
 pub told : (words : List (List ℕ)) (files : Option (List Pair)) (left_before left_now before now : Option (List ℕ))
     (s : Status) (mine outcome : Outcome) (pairs : List Pair) (left written : List ℕ) (other : Option (List ℕ))
@@ -202,7 +207,7 @@ told words files left_before left_now before now s mine outcome pairs left writt
     let h2 : IsOutcome words (Some pairs) (Some left) left_now mine = subst (λ o. IsOutcome words (Some pairs) o left_now mine) f h1 in
     let alike = same_outcome words pairs left left_now other mine outcome h2 theirs in
     lost_or s _ (
-      (is ∙ sym (same_status mine) ∙ ap outcome_status alike ∙ same_status outcome),
+      is ∙ alike_status alike.command mine outcome alike.holds,
       record {
         said = mine;
         is_outcome = h2;

@@ -3,6 +3,7 @@ use Rattle.std.proofs.Common.{◌≡◌, ℕ, ◌+◌, ◌<◌, ◌≤◌, inl, 
 use Rattle.std.proofs.lemmas.List.{take-append-drop}
 use Rattle.std.proofs.lemmas.Bool.{cases_lt, false≢true}
 use Rattle.command_words.specs.Command.{Spoken}
+use Rattle.command_words.specs.Laws.{AreInRange}
 use Rattle.outside.specs.Shelf.{Pair, file_named}
 use Rattle.model_core.specs.Files.{TraLists, LabLists}
 use Rattle.lab_reader.specs.LabFault.{LabFaultAt}
@@ -20,6 +21,7 @@ use Rattle.session.specs.declared.reading.TheConstants.{FORMULAS_LIMIT}
 use Rattle.report.specs.declared.model_fault.ModelFault.{ModelFault}
 use Rattle.report.specs.declared.model_fault.Which.TheVariants as which
 use Rattle.text_lines.specs.declared.fault.FileWhat.TheVariants.{WatchState}
+use Rattle.command_words.proofs.OneCommand.{options_in_range}
 use Rattle.lab_reader.proofs.Readings.{lab_reading}
 use Rattle.rew_reader.proofs.Readings.{rew_reading}
 use Rattle.tra_reader.proofs.Readings.{tra_reading}
@@ -38,7 +40,7 @@ bytes_of : (found : Option (List ℕ)) → IsSome found → (bytes : List ℕ) �
 bytes_of None h = absurd (false≢true h)
 bytes_of (Some bytes) h = (bytes, refl)
 
-module _ (pairs : List Pair) (left : List ℕ) (command : Spoken) where
+module _ (pairs : List Pair) (left : List ℕ) (command : Spoken) (range : AreInRange command.options) where
   abbrev Found : Type 0
   Found = OutcomeOf (Some command) pairs left
 
@@ -50,7 +52,7 @@ module _ (pairs : List Pair) (left : List ℕ) (command : Spoken) where
   module _ (model : TakesModel command (Some pairs)) where
     whole : length left ≤ FORMULAS_LIMIT → Found
     whole few =
-        let replies = some_replies (model_of model) command.options left in
+        let replies = some_replies (model_of model) command.options range model.has_state left in
         record {
           outcome = Replies replies.0;
           now = Some [];
@@ -148,10 +150,10 @@ module _ (pairs : List Pair) (left : List ℕ) (command : Spoken) where
         | inr f ↦ faulty (record { file = which.TraFile; line = f.0; what = f.1 }) (inl f.2, refl)
       ]
 
-pub some_outcome_of : (pairs : List Pair) (left : List ℕ) (command : Option Spoken) → IfSome command (λ c. AreThere c pairs)
-    → OutcomeOf command pairs left
-some_outcome_of pairs left None there = record { outcome = Usage; now = Some left; is = (refl, refl) }
-some_outcome_of pairs left (Some command) there = chain pairs left command there
+pub some_outcome_of : (words : List (List ℕ)) (pairs : List Pair) (left : List ℕ) (command : Option Spoken) → IsCommandOf words command
+    → IfSome command (λ c. AreThere c pairs) → OutcomeOf command pairs left
+some_outcome_of words pairs left None said there = record { outcome = Usage; now = Some left; is = (refl, refl) }
+some_outcome_of words pairs left (Some command) said there = chain pairs left command (options_in_range words command said) there
 
 -- the files of the command that the words say are there
 are_there : (words : List (List ℕ)) (pairs : List Pair) (command : Option Spoken) → IsCommandOf words command → AreNamed words pairs
@@ -163,5 +165,5 @@ are_there words pairs (Some command) said named = named command said
 pub some_outcome : (words : List (List ℕ)) (pairs : List Pair) (left : List ℕ) → AreNamed words pairs → SomeOutcome words pairs left
 some_outcome words pairs left named =
     let command = some_command words in
-    let some = some_outcome_of pairs left command.0 (are_there words pairs command.0 command.1 named) in
+    let some = some_outcome_of words pairs left command.0 command.1 (are_there words pairs command.0 command.1 named) in
     record { outcome = some.outcome; now = some.now; is = record { command = command.0; said = command.1; holds = some.is } }

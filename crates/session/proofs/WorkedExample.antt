@@ -23,11 +23,12 @@ use Rattle.text_lines.specs.WholeNumber.{IsWholeNumber, whole_value}
 use Rattle.text_lines.specs.WordLines.{WordLine, word_lines_of}
 use Rattle.model_core.specs.Model.{LabelledChain, files_chain}
 use Rattle.command_words.specs.Command.{Spoken}
+use Rattle.command_words.specs.Laws.{AreInRange}
 use Rattle.command_words.specs.Parts.{no_word, plain_word, plain}
 use Rattle.command_words.specs.Words.{WordsSay}
 use Rattle.command_words.specs.declared.command.Kind.TheVariants.{Ctmc}
 use Rattle.command_words.proofs.Defaults.{default_options, default_is_chosen}
-use Rattle.command_words.proofs.OneCommand.{one_command}
+use Rattle.command_words.proofs.OneCommand.{one_command, options_in_range}
 use Rattle.csl_semantics.specs.WorkedMeanings.{half, one, next_a}
 use Rattle.csl_syntax.specs.FormulaFault.{FormulaFaultAt}
 use Rattle.csl_syntax.specs.FormulaText.{FormulaSays, line_limits}
@@ -43,15 +44,14 @@ use Rattle.csl_syntax.proofs.CanonicalTokens.{spelling}
 use Rattle.csl_syntax.proofs.LongestTokens.{word_before}
 use Rattle.csl_syntax.proofs.Runs.{nothing_first}
 use Rattle.session.specs.FormulaLines.{formula_lines}
-use Rattle.session.specs.Laws.{AreNamed}
-use Rattle.session.specs.Laws.{WatchNothing}
-use Rattle.session.specs.LineReply.{LineReply, Faulty, NumberedReply, IsLineReply, IsReplyTo, AreReplies, formula_reply}
+use Rattle.session.specs.Laws.{AreNamed, NeverEndEarly, WatchNothing}
+use Rattle.session.specs.LineReply.{LineReply, Faulty, NumberedReply, IsLineReply, IsReplyTo, AreReplies}
 use Rattle.session.specs.Outcome.{Outcome, Replies, IsOutcome, outcome_text, outcome_status}
 use Rattle.session.specs.Serve.{AreThere}
 use Rattle.session.specs.WorkedExample.{example_words, example_tra, example_lab, example_files, example_formulas, example_answer}
 use Rattle.session.specs.declared.status.Status.TheVariants.{Refused}
 use Rattle.session.proofs.Outcomes.{one_unwatched}
-use Rattle.session.proofs.Unwatched.{computed_unwatched, filled_reply, filled_unwatched, filled_watched}
+use Rattle.session.proofs.FilledAnswers.{computed_reply, is_computed}
 use Rattle.session.proofs.LineReplies.{is_line_reply}
 
 -- ---- the chain
@@ -239,12 +239,16 @@ says_command = record {
   model = refl;
   rewards = refl;
   options = default_is_chosen;
+  flag = refl;
 }
 
 pub are_named : AreNamed example_words example_files
 are_named other said =
     subst (λ c. AreThere c example_files) (one_command example_words command other says_command said)
     (record { tra = refl; lab = refl; rew = tt })
+
+options_range : AreInRange default_options
+options_range = options_in_range example_words command says_command
 
 -- ---- the line that is answered
 abbrev over : LabelledChain
@@ -272,17 +276,12 @@ says_next : FormulaSays first_line lab.names next_a
 says_next = record { short = omega arith; tokens = spelling next_a []; has = has_next; spells = spells_next }
 
 abbrev first_reply : LineReply
-first_reply = filled_reply default_options (formula_reply over default_options next_a)
+first_reply = computed_reply over default_options next_a
 
 is_first_reply : IsLineReply over default_options first_line first_reply
-is_first_reply = is_line_reply over default_options first_line first_reply (record {
-  formula = next_a;
-  says = says_next;
-  is =
-      filled_unwatched default_options (formula_reply over default_options next_a)
-      ∙ computed_unwatched over default_options next_a;
-  watched = filled_watched default_options (formula_reply over default_options next_a);
-})
+is_first_reply =
+    is_line_reply over default_options first_line first_reply
+    (record { formula = next_a; says = says_next; is = is_computed over default_options options_range (omega arith) next_a })
 
 -- ---- the line that is refused
 is_unknown : FormulaFaultAt (codes "b") lab.names 1 UnknownLabel
@@ -350,10 +349,14 @@ pub text_is : outcome_text outcome ≡ example_answer
 unfolding digits
 text_is = refl
 
--- no state is watched, and so there is no other outcome
+-- no state is watched and no run may end early, and so there is no other outcome
 watch_nothing : WatchNothing example_words
 watch_nothing = record { command = Some command; said = says_command; holds = refl }
 
+never_early : NeverEndEarly example_words
+never_early = record { command = Some command; said = says_command; holds = refl }
+
 pub no_other : (now : Option (List ℕ)) (said : Outcome) → IsOutcome example_words (Some example_files) (Some example_formulas) now said
     → said ≡ outcome
-no_other now said h = one_unwatched example_words example_files example_formulas now (Some []) said outcome watch_nothing h is_outcome
+no_other now said h =
+    one_unwatched example_words example_files example_formulas now (Some []) said outcome watch_nothing never_early h is_outcome

@@ -1,5 +1,5 @@
 -- What is replied to a line of the formulas.
-use Rattle.std.specs.Prelude.{◌≡◌, ℕ, Bool, true, false, ◌&&◌, ◌++◌, List, [], ◌∷◌, map, Option, Some, None, ⊤}
+use Rattle.std.specs.Prelude.{◌≡◌, ℕ, Bool, true, false, ◌&&◌, ◌++◌, List, [], ◌∷◌, map, Some, None}
 use Rattle.std.specs.List.{AllZip}
 use Rattle.command_words.specs.declared.command.Options.{Options}
 use Rattle.csl_syntax.specs.CanonicalText.{formula_text}
@@ -9,8 +9,11 @@ use Rattle.csl_syntax.specs.Tree.{Tree}
 use Rattle.csl_syntax.specs.declared.fault.FormulaFault.{FormulaFault}
 use Rattle.model_core.specs.Model.{LabelledChain}
 use Rattle.report.specs.Answer.{AnswerLists}
-use Rattle.nested_verdict.specs.UnwatchedAnswer.{unwatched_answer}
+use Rattle.nested_verdict.specs.EarlyAnswer.{IsAnswerTo}
+use Rattle.nested_verdict.specs.ExactAnswer.{IsExactAnswer}
+use Rattle.nested_verdict.specs.FixedAnswer.{fixed_answer}
 use Rattle.nested_verdict.specs.FormulaAnswer.{formula_answer, first_refusal}
+use Rattle.nested_verdict.specs.UnwatchedAnswer.{unwatched_answer}
 use Rattle.session.specs.FormulaLines.{formula_lines}
 use Rattle.report.specs.AnswerText.{formula_line, answer_lines}
 use Rattle.report.specs.RefusalText.{formula_fault_text, plan_refusal_text, refused_text, refusal_line}
@@ -29,34 +32,25 @@ pub record NumberedReply : Type 0 where
   pub number : ℕ
   pub reply : LineReply
 
--- the refusal, where there is one, and else the reply
-abbrev pub reply_unless : Option PlanError → LineReply → LineReply
-reply_unless (Some refusal) reply = Refused refusal
-reply_unless None reply = reply
+-- the formula isn't refused, the text is its own, and this is an answer to it: of the whole run, or of one that ended early; and exact
+pub record AnswersFormula (over : LabelledChain) (options : Options) (f : Tree) (text : List ℕ) (answer : AnswerLists) : Type 0 where
+  pub accepted : first_refusal over options f ≡ None
+  pub is_text : text ≡ formula_text over.names f
+  pub is : IsAnswerTo options (formula_answer over options f) (unwatched_answer answer)
+  pub watched : IsWatched options answer
+  pub exact : IsExactAnswer over options f answer
 
--- the reply to a formula, but for the brackets of the watched state
-abbrev pub formula_reply : LabelledChain → Options → Tree → LineReply
-formula_reply over options f =
-    reply_unless (first_refusal over options f) (Answered (formula_text over.names f) (formula_answer over options f))
-
--- the reply but for the brackets of the watched state
-abbrev pub unwatched_reply : LineReply → LineReply
-unwatched_reply (Answered text answer) = Answered text (unwatched_answer answer)
-unwatched_reply (Faulty fault) = Faulty fault
-unwatched_reply (Refused refusal) = Refused refusal
-
--- the reply has the brackets of the watched state that it should
-abbrev pub IsWatchedReply : Options → LineReply → Type 0
-IsWatchedReply options (Answered text answer) = IsWatched options answer
-IsWatchedReply options (Faulty fault) = ⊤
-IsWatchedReply options (Refused refusal) = ⊤
+-- this is a reply to the formula: an answer, or its refusal
+abbrev pub IsFormulaReply : LabelledChain → Options → Tree → LineReply → Type 0
+IsFormulaReply over options f (Answered text answer) = AnswersFormula over options f text answer
+IsFormulaReply over options f (Faulty fault) = ⊥
+IsFormulaReply over options f (Refused refusal) = first_refusal over options f ≡ Some refusal
 
 -- the line stands for a formula, and this is a reply to it
 pub record RepliesTo (over : LabelledChain) (options : Options) (line : List ℕ) (reply : LineReply) : Type 0 where
   pub formula : Tree
   pub says : FormulaSays line over.names formula
-  pub is : unwatched_reply reply ≡ formula_reply over options formula
-  pub watched : IsWatchedReply options reply
+  pub is : IsFormulaReply over options formula reply
 
 -- this is a reply to the line
 abbrev pub IsLineReply : LabelledChain → Options → List ℕ → LineReply → Type 0
@@ -73,9 +67,14 @@ pub record IsReplyTo (over : LabelledChain) (options : Options) (line : LineText
 abbrev pub AreReplies : LabelledChain → Options → List ℕ → List NumberedReply → Type 0
 AreReplies over options input replies = AllZip (IsReplyTo over options) (formula_lines input) replies
 
--- replies but for the brackets of the watched state
-abbrev pub unwatched_replies : List NumberedReply → List NumberedReply
-unwatched_replies replies = map (λ r. record { number = r.number; reply = unwatched_reply r.reply }) replies
+-- the reply, but for what depends on when each step of a run is taken
+abbrev pub fixed_reply : Options → LineReply → LineReply
+fixed_reply options (Answered text answer) = Answered text (fixed_answer options answer)
+fixed_reply options (Faulty fault) = Faulty fault
+fixed_reply options (Refused refusal) = Refused refusal
+
+abbrev pub fixed_replies : Options → List NumberedReply → List NumberedReply
+fixed_replies options replies = map (λ r. record { number = r.number; reply = fixed_reply options r.reply }) replies
 
 abbrev pub is_answer : LineReply → Bool
 is_answer (Answered text answer) = true

@@ -1,12 +1,13 @@
 -- What is answered to the words, the files and the formulas.
-use Rattle.std.specs.Prelude.{◌≡◌, ℕ, ◌+◌, ◌≤◌, List, ◌++◌, length, codes, if◌then◌else◌, Option, IsNone, IsSomeAnd}
+use Rattle.std.specs.Prelude.{◌≡◌, ℕ, ◌+◌, ◌≤◌, List, ◌++◌, length, codes, if◌then◌else◌, Option, Some, None, IsNone, IsSomeAnd}
 use Rattle.std.specs.Io.KnownBytes.{Consumes, Keeps, IsAtEnd}
 use Rattle.command_words.specs.Command.{Spoken}
+use Rattle.command_words.specs.declared.command.Options.{Options}
 use Rattle.outside.specs.Shelf.{Pair}
 use Rattle.session.specs.Command.{Say}
 use Rattle.report.specs.FaultText.{model_fault_text}
 use Rattle.report.specs.RefusalText.{refusal_line}
-use Rattle.session.specs.LineReply.{NumberedReply, AreReplies, unwatched_replies, all_answered, replies_text}
+use Rattle.session.specs.LineReply.{NumberedReply, AreReplies, fixed_replies, all_answered, replies_text}
 use Rattle.session.specs.ModelFiles.{IsFileFaulty, TakesModel, model_of}
 use Rattle.session.specs.declared.reading.TheConstants.{FORMULAS_LIMIT}
 use Rattle.report.specs.declared.model_fault.ModelFault.{ModelFault}
@@ -55,17 +56,23 @@ IsOutcomeOf command files before now (Replies replies) = IsSomeAnd command (λ c
 abbrev pub IsOutcome : List (List ℕ) → Option (List Pair) → Option (List ℕ) → Option (List ℕ) → Outcome → Type 0
 IsOutcome words files before now outcome = Say words (λ command. IsOutcomeOf command files before now outcome)
 
--- the outcome but for the brackets of the watched state
-abbrev pub unwatched_outcome : Outcome → Outcome
-unwatched_outcome Usage = Usage
-unwatched_outcome (Faulty fault) = Faulty fault
-unwatched_outcome FormulasLong = FormulasLong
-unwatched_outcome (Replies replies) = Replies (unwatched_replies replies)
+-- the outcome, but for what depends on when each step of a run is taken: the brackets of the watched state, and those of an until whose run
+-- may have ended early
+abbrev pub fixed_outcome : Options → Outcome → Outcome
+fixed_outcome options Usage = Usage
+fixed_outcome options (Faulty fault) = Faulty fault
+fixed_outcome options FormulasLong = FormulasLong
+fixed_outcome options (Replies replies) = Replies (fixed_replies options replies)
+
+-- two outcomes of a command are the same, but for that
+abbrev pub AreAlike : Option Spoken → Outcome → Outcome → Type 0
+AreAlike None a b = a ≡ b
+AreAlike (Some command) a b = fixed_outcome command.options a ≡ fixed_outcome command.options b
 
 abbrev pub usage_text : List ℕ
 usage_text =
     codes "usage: mrmc_any (ctmc M.tra M.lab | cmrm M.tra M.lab M.rew)"
-    ++ codes " [--workers 1..64] [--bits 8..48] [--jumps 1..16384] [--watch 0..1000] [--state 1..65536]"
+    ++ codes " [--workers 1..64] [--bits 8..48] [--jumps 1..16384] [--watch 0..1000] [--state 1..65536] [--until-decided]"
 
 abbrev pub long_text : List ℕ
 long_text = codes "refused FormulasLong"

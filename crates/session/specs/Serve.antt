@@ -6,7 +6,7 @@ use Rattle.outside.specs.Shelf.{Pair, file_named}
 use Rattle.outside.specs.Whole.{WritesFront, AllFlushed}
 use Rattle.session.specs.Command.{Say, names_of}
 use Rattle.session.specs.ExactReply.{RepliesExactly, RefusesLongInput}
-use Rattle.session.specs.Outcome.{Outcome, IsOutcome, unwatched_outcome, outcome_text, outcome_status}
+use Rattle.session.specs.Outcome.{Outcome, IsOutcome, AreAlike, outcome_text, outcome_status}
 use Rattle.session.specs.declared.status.Fault.TheVariants.{Read, Write}
 use Rattle.report.specs.declared.model_fault.Which.{Which}
 use Rattle.report.specs.declared.model_fault.Which.TheVariants as which
@@ -26,12 +26,12 @@ pub record Settles (words : List (List ℕ)) (files : Option (List Pair)) (left_
   pub is_status : status ≡ outcome_status outcome
   pub says : Says before now flushed (outcome_text outcome)
 
--- the text of an outcome is written, which is the given one but for the brackets of the watched state
+-- the text of an outcome is written that is like the given one
 pub record SaysAlike (words : List (List ℕ)) (files : Option (List Pair)) (left_before left_now : Option (List ℕ)) (written : List ℕ)
     (now : Option (List ℕ)) (outcome : Outcome) : Type 0 where
   pub said : Outcome
   pub is_outcome : IsOutcome words files left_before left_now said
-  pub alike : unwatched_outcome said ≡ unwatched_outcome outcome
+  pub alike : Say words (λ command. AreAlike command said outcome)
   pub text : now ≡ Some (written ++ outcome_text said)
 
 -- the words say a command, whose files stand for a model, and what is printed of the formulas is exact

@@ -6,9 +6,10 @@ pub fn input_has_an_outcome()
     ensures { InputHasAnOutcome }
 {}
 
-/// They have one outcome at most, but for the brackets of a watched state; where none is watched,
-/// they have one at most.
+/// They have one outcome at most, but for the brackets of a watched state, and with the flag of an
+/// early end those of an until that leaves no state undecided. Where no state is watched and the flag
+/// isn't given, they have one at most.
 pub fn outcome_is_one()
-    ensures but_watched { OutcomeIsOne }
+    ensures alike { OutcomeIsOne }
     ensures unwatched { UnwatchedOutcomeIsOne }
 {}

@@ -10,6 +10,7 @@ use std::str;
 use std::test::Fail;
 use std::thread::Threads;
 
+mod early;
 mod engine;
 mod failing;
 mod files;
@@ -18,6 +19,7 @@ mod line_faults;
 mod lines;
 mod nested;
 mod next;
+mod one_layer;
 mod options;
 mod reach;
 mod rewards;
@@ -55,7 +57,7 @@ const CTMC: &[&str] = &["mrmc_any", "ctmc", "M.tra", "M.lab"];
 const CMRM: &[&str] = &["mrmc_any", "cmrm", "M.tra", "M.lab", "M.rew"];
 
 const USAGE: &str =
-    "usage: mrmc_any (ctmc M.tra M.lab | cmrm M.tra M.lab M.rew) [--workers 1..64] [--bits 8..48] [--jumps 1..16384] [--watch 0..1000] [--state 1..65536]\n";
+    "usage: mrmc_any (ctmc M.tra M.lab | cmrm M.tra M.lab M.rew) [--workers 1..64] [--bits 8..48] [--jumps 1..16384] [--watch 0..1000] [--state 1..65536] [--until-decided]\n";
 
 // What a run is given.
 #[derive(Clone, Copy)]

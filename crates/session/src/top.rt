@@ -21,7 +21,7 @@ use std::alloc::Global;
 use std::thread::Threads;
 
 const USAGE: &[u8] =
-    b"usage: mrmc_any (ctmc M.tra M.lab | cmrm M.tra M.lab M.rew) [--workers 1..64] [--bits 8..48] [--jumps 1..16384] [--watch 0..1000] [--state 1..65536]";
+    b"usage: mrmc_any (ctmc M.tra M.lab | cmrm M.tra M.lab M.rew) [--workers 1..64] [--bits 8..48] [--jumps 1..16384] [--watch 0..1000] [--state 1..65536] [--until-decided]";
 
 const FORMULAS_LONG: &[u8] = b"refused FormulasLong";
 
@@ -53,7 +53,7 @@ pub fn serve<F: Files, S: Source, K: Sink, G: Gate>(
         IsFileFaulty c (F.files files.old) fault × Keeps (S.left formulas.old) (S.left formulas.new))) }
 
     // Where all is told, the status and the text are a function of the words, the files and the formulas, but for the brackets
-    // of the watched state.
+    // of the watched state, and those of an until whose run may have ended early.
     ensures told { (pairs : List Pair) (left written : List ℕ) (now : _) (outcome : Outcome) → F.files files.old ≡ Some pairs → S.left
         formulas.old ≡ Some left
         → K.written out.old ≡ Some written → IsOutcome (map string_bytes words.now) (Some pairs) (Some left) now outcome

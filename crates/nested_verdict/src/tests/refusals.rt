@@ -16,6 +16,7 @@ const MOST_JUMPS: Options = Options {
     jumps: 16_384,
     watch: 0,
     state: 0,
+    until_decided: false,
 };
 
 fn check_refused<R: Threads + Sync + Abort>(

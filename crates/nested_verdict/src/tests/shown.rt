@@ -7,6 +7,7 @@ const WATCHING: Options = Options {
     jumps: 512,
     watch: 3,
     state: 0,
+    until_decided: false,
 };
 
 fn shown_of<R: Threads + Sync + Abort>(

@@ -135,6 +135,23 @@ const WRONG_OPTIONS: &[&[&str]] = &[
         "mrmc_any", "ctmc", "M.tra", "M.lab", "--bits=8", "--bits", "8",
     ],
     &["mrmc_any", "ctmc", "M.tra", "M.lab", "--", "--bits=8"],
+    &["mrmc_any", "ctmc", "M.tra", "M.lab", "--until-decided=1"],
+    &[
+        "mrmc_any",
+        "ctmc",
+        "M.tra",
+        "M.lab",
+        "--",
+        "--until-decided",
+    ],
+    &[
+        "mrmc_any",
+        "--until-decided",
+        "ctmc",
+        "M.tra",
+        "M.lab",
+        "--until-decided",
+    ],
 ];
 
 #[test]

@@ -18,7 +18,8 @@ write_reply-requires g c =
 
 pub returns-in_err-reply-clause-front : goal.returns-in_err-reply-clause-front
 returns-in_err-reply-clause-front g c =
-    let some = some_reply (labelled_chain c.args.input.now.model) c.args.input.now.options c.args.line.bytes.now in
+    let some =
+    some_reply (labelled_chain c.args.input.now.model) c.args.input.now.options c.args.line.bytes.now c.requires.options c.requires.state in
     record {
       reply = record { number = c.args.line.number; reply = some.0 };
       is = record { number = refl; reply = some.1 };

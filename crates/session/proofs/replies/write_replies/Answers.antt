@@ -23,7 +23,7 @@ returns-in_err-answered-clause-front g c =
     let input = c.args.input.now in
     front_of_next (labelled_chain input.model) input.options input.text.items (g.K.Sink.written c.args.out.now) c.loop-line.line-iterator
     _ c.next.new.self c.in-Some.ensures.steps (g.K.Sink.written c.loop-line.out) c.loop-line.all_answered c.loop-line.invariant.replied
-    (g.K.Sink.written c.reply_line.new.out) c.in_err-answered.ensures.front
+    (g.K.Sink.written c.reply_line.new.out) c.requires.options c.requires.state c.in_err-answered.ensures.front
 
 pub loop-line-preserved : goal.loop-line-preserved
 loop-line-preserved g c =
@@ -46,5 +46,5 @@ returns-clause-written g c =
 pub returns-clause-front : goal.returns-clause-front
 returns-clause-front g c =
     let input = c.args.input.now in
-    front_replied (labelled_chain input.model) input.options input.text.items (g.K.Sink.written c.args.out.now) c.loop-line.line-iterator
-    (g.K.Sink.written c.loop-line.out) c.loop-line.all_answered c.loop-line.invariant.replied
+    front_replied (labelled_chain input.model) input.options input.text.items (g.K.Sink.written c.args.out.now) c.requires.options
+    c.requires.state c.loop-line.line-iterator (g.K.Sink.written c.loop-line.out) c.loop-line.all_answered c.loop-line.invariant.replied
