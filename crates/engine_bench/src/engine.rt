@@ -1,12 +1,16 @@
 // The engines.
 
-ghost use Rattle.std.specs.Prelude.{◌≤◌};
+ghost use Rattle.std.specs.Prelude.{◌+◌, ◌*◌, ◌<◌, ◌≤◌, length};
 ghost use Rattle.bound_grid.specs.Passes.{IsPassOf};
 ghost use Rattle.step_core.specs.SoundPlan.{IsSoundPlan};
 
+use crate::held::HoldsSecond;
 use bound_grid::{Board, Pass};
+use column_workers::run;
+use outside::{Gate, OpenGate};
 use std::alloc::{AllocError, Global};
-use step_core::{Plan, plain_tables};
+use std::thread::Threads;
+use step_core::{Plan, Watch, plain_tables};
 use tighten_step::tighten_block;
 use window_engine::window_brackets;
 
@@ -24,6 +28,13 @@ pub(crate) enum Engine {
     Window,
     /// A board, and one pass that tightens block after block.
     Board,
+    /// A board, and one worker.
+    One,
+    /// A board, and two workers.
+    Two,
+    /// A board, and two workers, of whom the second is held before its first block until the first has
+    /// come to the last layer.
+    Held,
 }
 
 impl Engine {
@@ -34,17 +45,27 @@ impl Engine {
             "tables" => Some(Engine::Tables),
             "window" => Some(Engine::Window),
             "board" => Some(Engine::Board),
+            "one" => Some(Engine::One),
+            "two" => Some(Engine::Two),
+            "held" => Some(Engine::Held),
             _ => None,
         }
     }
 
     /// Goes through the layers of the plan, and tells how many they are; 0 where a board can't hold
     /// them. The only error is want of memory.
-    pub(crate) fn run(self, alloc: Global, plan: Plan) -> Result<u32, AllocError>
+    pub(crate) fn run<R: Threads + Sync>(
+        self,
+        rt: &R,
+        alloc: Global,
+        plan: Plan,
+    ) -> Result<u32, AllocError>
         requires sound { IsSoundPlan plan }
     {
-        let layers = plan.layers + 1;
-        if u64::from(layers) * plan.frame.rows.len() as u64 > MOST_CELLS {
+        let last = plan.layers;
+        let layers = last + 1;
+        let states = plan.frame.rows.len() as u64;
+        if states == 0 || u64::from(layers) * states > MOST_CELLS {
             return Ok(0);
         }
         match self {
@@ -59,9 +80,32 @@ impl Engine {
                 let (board, mut pass) = Board::open(alloc, plan)?;
                 tighten_all(&board, &mut pass);
             }
+            Engine::One => race(rt, alloc, plan, 1, &OpenGate)?,
+            Engine::Two => race(rt, alloc, plan, 2, &OpenGate)?,
+            Engine::Held => race(rt, alloc, plan, 2, &HoldsSecond::until(last))?,
         }
         Ok(layers)
     }
+}
+
+// Makes all words of a board final by so many workers.
+fn race<R: Threads + Sync, G: Gate>(
+    rt: &R,
+    alloc: Global,
+    plan: Plan,
+    workers: u32,
+    gate: &G,
+) -> Result<(), AllocError>
+    requires sound { IsSoundPlan plan }
+    requires cells { (plan.layers + 1) * length plan.frame.rows ≤ 8388608 }
+    requires states { 0 < length plan.frame.rows }
+    requires some { 1 ≤ workers }
+    requires few { workers ≤ 64 }
+{
+    let (board, pass) = Board::open(alloc, plan)?;
+    let unwatched = Watch { state: 0, count: 0 };
+    run(rt, alloc, &board, pass, workers, unwatched, gate)?;
+    Ok(())
 }
 
 // Tightens all blocks, layer by layer.

@@ -3,6 +3,7 @@
 #![tactic(auto)]
 
 mod engine;
+mod held;
 mod until;
 
 use engine::Engine;
@@ -11,6 +12,7 @@ use std::alloc::Global;
 use std::env;
 use std::process::ExitCode;
 use std::rt::{Env, Files as SystemFiles};
+use std::thread::Threads;
 use until::plan_of;
 
 fn main(rt: HostRuntime) -> ExitCode {
@@ -21,7 +23,7 @@ fn main(rt: HostRuntime) -> ExitCode {
         }
         None => {
             let _ = eprintln!(rt;
-                "usage: engine_bench (plan | tables | window | board) M.tra M.lab LABEL TIME"
+                "usage: engine_bench (plan | tables | window | board | one | two | held) M.tra M.lab LABEL TIME"
             );
             ExitCode::FAILURE
         }
@@ -29,7 +31,10 @@ fn main(rt: HostRuntime) -> ExitCode {
 }
 
 // The number of layers, where the words name an engine and an until, and nothing fails.
-fn layers<R: Env + SystemFiles + AllocGlobal>(rt: &R, alloc: Global) -> Option<u32> {
+fn layers<R: Env + SystemFiles + AllocGlobal + Threads + Sync>(
+    rt: &R,
+    alloc: Global,
+) -> Option<u32> {
     let words: Vec<String> = env::args(rt).ok()?.collect(alloc).ok()?;
     let [_, engine, tra, lab, label, time] = words.as_slice() else {
         return None;
@@ -39,5 +44,5 @@ fn layers<R: Env + SystemFiles + AllocGlobal>(rt: &R, alloc: Global) -> Option<u
     let tra = files.take(alloc, tra.as_str()).ok()?;
     let lab = files.take(alloc, lab.as_str()).ok()?;
     let plan = plan_of(alloc, &tra, &lab, label.as_bytes(), time.as_bytes())?;
-    engine.run(alloc, plan).ok()
+    engine.run(rt, alloc, plan).ok()
 }
