@@ -62,11 +62,11 @@ def untrue_replies(replies, printed):
     # Where some reply is missing the bytes differ anyhow, and which is whose isn't clear.
     for reply, text in zip(replies, texts) if len(replies) == len(texts) else ():
         if is_small(reply.asked):
-            yield from untrue_lines(reply.asked, text)
+            yield from untrue_lines(reply.asked, reply.may_end_early, text)
 
 
-def untrue_lines(asked, printed):
-    """For each line of an answer that says something untrue, what it is."""
+def untrue_lines(asked, may_be_wide, printed):
+    """For each line of an answer that says something untrue, what it is. Where a bracket may be wide, its width says nothing."""
     states = state_lines_of(asked, printed)
     if len(states) != asked.over.chain.states:
         yield f"{len(states)} lines of states, wanted {asked.over.chain.states}"
@@ -80,7 +80,7 @@ def untrue_lines(asked, printed):
             return
         yield from untrue_verdict(parts[2], state, truths)
     if is_shown:
-        yield from untrue_brackets(asked, [STATE_LINE.fullmatch(line) for line in states])
+        yield from untrue_brackets(asked, may_be_wide, [STATE_LINE.fullmatch(line) for line in states])
 
 
 def state_lines_of(asked, printed):
@@ -124,7 +124,7 @@ def probabilities(operator, over, *known):
 
 # Brackets, for each choice of what is known of the operands.
 
-def untrue_brackets(asked, lines):
+def untrue_brackets(asked, may_be_wide, lines):
     known = [known_of(operand, asked.over) for operand in operands(asked.formula)]
     exact = [true_states(operand, asked.over) for operand in operands(asked.formula)]
     brackets = [tuple(Fraction(end.decode()) for end in line.groups()[2:]) for line in lines]
@@ -134,7 +134,9 @@ def untrue_brackets(asked, lines):
                 yield f"line of state {state}: {what}, with the operands {list(map(sorted, choice))}"
     narrow, wide = (members_of(asked, sets) for sets in zip(*known))
     for state, (line, bracket) in enumerate(zip(lines, brackets)):
-        for what in untrue_bracket(asked, known, state, line[2], bracket, narrow[state], wide[state]):
+        if not may_be_wide and is_too_wide(*bracket, narrow[state], wide[state]):
+            yield f"line of state {state + 1}: the bracket is too wide"
+        for what in untrue_bracket(asked, known, state, line[2], bracket):
             yield f"line of state {state + 1}: {what}"
 
 
@@ -154,12 +156,15 @@ def untrue_members(bracket, members):
         yield "more lies past the horizon than it may"
 
 
-def untrue_bracket(asked, known, state, said, bracket, narrow, wide):
-    """Of the bracket for all choices: `narrow` is for what must be, and `wide` for all that may be."""
-    low, high = bracket
+def is_too_wide(low, high, narrow, wide):
+    """Whether the bracket for all choices is: `narrow` is for what must be, and `wide` for all that may be."""
     # Rounding to twelve decimals adds less than one unit at each end.
-    if high - low >= wide.values[0] - narrow.values[0] + wide.width + Fraction(2, UNITS):
-        yield "the bracket is too wide"
+    return high - low >= wide.values[0] - narrow.values[0] + wide.width + Fraction(2, UNITS)
+
+
+def untrue_bracket(asked, known, state, said, bracket):
+    """Of the bracket for all choices."""
+    low, high = bracket
     if said == b"undecided" and not low <= asked.formula.parts[1].fraction() <= high:
         yield "undecided, and the threshold isn't in the bracket"
     if asked.is_until():

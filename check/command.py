@@ -8,6 +8,8 @@ RANGES = {
     b"--workers": range(1, 65), b"--bits": range(8, 49), b"--jumps": range(1, 16_385), b"--watch": range(1_001),
     b"--state": range(1, 65_537),
 }
+# The option without a value.
+FLAG = b"--until-decided"
 
 
 class Options(NamedTuple):
@@ -17,6 +19,7 @@ class Options(NamedTuple):
     jumps: int = 512
     watch: int = 0
     state: int = 1
+    until_decided: bool = False
 
 
 class Command(NamedTuple):
@@ -50,7 +53,7 @@ def is_utf8(word):
 
 
 def part_words(words):
-    """The plain words, and each option that is given with the word of its value."""
+    """The plain words, and each option that is given with the word of its value, which is None for the one that has none."""
     plain, given, rest = [], [], iter(words)
     for word in rest:
         name, equals, value = word.partition(b"=")
@@ -58,6 +61,8 @@ def part_words(words):
             plain += rest
         elif name in RANGES:
             given.append((name, value if equals else next_value(rest)))
+        elif word == FLAG:
+            given.append((word, None))
         elif word.startswith(b"-") and len(word) > 1:
             raise NoCommand
         else:
@@ -75,8 +80,8 @@ def next_value(rest):
 def read_options(given):
     values = {}
     for name, word in given:
-        value = whole_number(word)
-        if name in values or value not in RANGES[name]:
+        value = True if name == FLAG else whole_number(word)
+        if name in values or (name != FLAG and value not in RANGES[name]):
             raise NoCommand
         values[name] = value
     return options_of(values)
@@ -84,4 +89,4 @@ def read_options(given):
 
 def options_of(values):
     """The options from the values of those that are given, by their names as words."""
-    return Options(**{name[2:].decode(): value for name, value in values.items()})
+    return Options(**{name[2:].replace(b"-", b"_").decode(): value for name, value in values.items()})

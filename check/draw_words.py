@@ -1,5 +1,5 @@
 """Words of the command line: options in every spelling and order among the names of files, and words that are no command."""
-from command import RANGES
+from command import FLAG, RANGES
 from draw_numbers import whole_word
 
 WORDS = [b"ctmc", b"cmrm", b"M.tra", b"M.lab", b"M.rew", b"", b"-", b"--", b"--bits", b"12", b"--watch=2"]
@@ -8,16 +8,18 @@ FILE_NAMES = [b"-", b"", b"=", b"bits", b"bits=9", b" --bits", b"\xe2\x80\x93bit
 NO_FILE_NAMES = [b"--help", b"--version", b"-h", b"-V", b"-M.tra", b"-1", b"---", b"-=", b"--=1", b"\xff", b"M\xff.tra", b"\xc3",
                  b"\xed\xa0\x80", b"\xc0\xaf", b"\xf5\x80\x80\x80"]
 NO_OPTIONS = [b"--worker", b"--w", b"--bit=12", b"--wat=1", b"--Bits=12", b"--BITS=12", b"-bits=12", b"-b12", b"-w4", b"--bits12",
-              b"--bits:12", b"--bits=12 ", b"--bits =12", b"--until-decided", b"--until-decided=1", b"--jump", b"--states=1",
+              b"--bits:12", b"--bits=12 ", b"--bits =12", b"--until-decided=1", b"--until-decided=", b"--until-decide",
+              b"--until_decided", b"--until-decided ", b"--jump", b"--states=1",
               b"--no-watch", b"--=12", b"--bits==12", b"--bits=12=12", b"--st\xff"]
 NO_COMMANDS = [b"CTMC", b"ctmc ", b"ctmc\n", b"ctm", b"ctmcc", b"cmr", b"dtmc", b"generate", b"", b"-", b"--help", b"\xff"]
 NO_VALUES = [b"", b" ", b"+9", b"9.0", b"9e0", b"9 ", b" 9", b"0x9", b"1_0", b"9,", b"x", b"\xd9\xa9", b"9\n", b"9\x80", b"9" * 40, b"=9"]
 # What may stand right after an option that has its value in the next word.
-NO_NEXT_VALUES = [b"-9", b"-", b"--", b"--bits=9", b"--workers", b"-h"]
+NO_NEXT_VALUES = [b"-9", b"-", b"--", b"--bits=9", b"--workers", b"-h", FLAG]
 
 
 def draw_options(draws, states):
-    """Some of the options, by their names, with values in their ranges; the watched state is one of the chain's."""
+    """Some of the options, by their names, with values in their ranges, which is True for the one without a value; the watched
+    state is one of the chain's."""
     given = {}
     for name, values in RANGES.items():
         if draws.chance(1, 5):
@@ -30,6 +32,8 @@ def draw_options(draws, states):
         given[b"--watch"] = draws.mostly(draws.below(6), given[b"--watch"])
     if b"--state" in given or b"--watch" in given:
         given[b"--state"] = draws.between(1, states)
+    if draws.chance(1, 4):
+        given[FLAG] = True
     return given
 
 
@@ -48,9 +52,14 @@ def option_words(draws, name, value):
     return [name + b"=" + value] if draws.chance(1, 2) else [name, value]
 
 
+def given_words(draws, name, value):
+    """The words of an option that is given."""
+    return [name] if name == FLAG else option_words(draws, name, whole_word(draws, value))
+
+
 def words_of_command(draws, plain, given):
     """The plain words in their order, with the options anywhere among them."""
-    return among(draws, plain, [option_words(draws, name, whole_word(draws, value)) for name, value in draws.shuffled(given.items())])
+    return among(draws, plain, [given_words(draws, name, value) for name, value in draws.shuffled(given.items())])
 
 
 def among(draws, plain, groups):
@@ -100,6 +109,10 @@ def option_twice(draws):
     return [option_words(draws, name, value) for value in (first, draws.one_of([first, right_value(draws, name)]))]
 
 
+def flag_twice(draws):
+    return [[FLAG]] * 2
+
+
 def wrong_value(name, value):
     return lambda draws: option_words(draws, name, value)
 
@@ -124,7 +137,7 @@ def option_behind_parting(draws, plain):
     """Behind `--` an option's words are plain words: too many, or the names of files that aren't there."""
     place = draws.below(len(plain) + 1)
     parting, name = draws.below(place + 1), any_option(draws)
-    group = draws.one_of([[name + b"=9"], [name, b"9"]])
+    group = draws.one_of([[name + b"=9"], [name, b"9"], [FLAG]])
     return [*plain[:parting], b"--", *plain[parting:place], *group, *draws.one_of([plain[place:], plain[place + len(group):]])]
 
 
@@ -135,7 +148,8 @@ def parting_twice(draws, plain):
 
 
 def option_wrongs():
-    yield "option twice", [with_groups(option_twice)] * 4
+    yield "option twice", [*[with_groups(option_twice)] * 4, with_groups(flag_twice)]
+    yield "value behind the option that has none", [with_group(lambda draws: [FLAG, right_value(draws, any_option(draws))])] * 2
     yield "option has no value", [option_at_end, option_at_end, option_for_file]
     yield "value is no whole number", [with_group(wrong_value(name, value)) for name, value in zip(list(RANGES) * 4, NO_VALUES)]
     yield "value past its range", [with_group(wrong_value(name, b"%d" % value)) for name in RANGES for value in ends_of_range(name)[1]]

@@ -14,7 +14,7 @@ INPUT_LIMIT = 2 ** 20
 UNITS = 10 ** 12
 
 USAGE = (b"usage: mrmc_any (ctmc M.tra M.lab | cmrm M.tra M.lab M.rew) [--workers 1..64] [--bits 8..48] [--jumps 1..16384]"
-         b" [--watch 0..1000] [--state 1..65536]\n")
+         b" [--watch 0..1000] [--state 1..65536] [--until-decided]\n")
 
 NUMBER_FAULTS = ("Number NotNumber", "Number TooFine", "Number TooBig")
 FILE_FAULTS = {
@@ -51,6 +51,8 @@ class Reply(NamedTuple):
     kind: str
     text: bytes
     asked: Optional[Asked] = None
+    # Whether the run of its until may have ended before all was computed.
+    may_end_early: bool = False
 
 
 class Outcome(NamedTuple):
@@ -133,7 +135,12 @@ def reply_to(number, line, over):
     except NoPlan as refused:
         return refusal(number, refused.what, after=b"" if refused.state is None else b" state %d" % (refused.state + 1))
     text = b"formula %s\n" % canonical_line(formula) + b"".join(answer_lines(answer, over))
-    return Reply(kind_of(formula), text, Asked(formula, over) if has_operator(formula) else None)
+    return Reply(kind_of(formula), text, Asked(formula, over) if has_operator(formula) else None, may_end_early(answer, over))
+
+
+def may_end_early(answer, over):
+    """Of an until, which has a horizon, where that is asked for and no state is undecided."""
+    return over.options.until_decided and answer.horizon is not None and answer.known.is_decided()
 
 
 def refusal(number, what, before=b"", after=b""):
